@@ -1,0 +1,14 @@
+pub mod Encode
+pub mod Shapes
+pub mod Encoded
+pub mod Found
+pub mod Judged
+pub mod Ending
+pub mod Accepted
+pub mod Fair
+pub mod Slices
+pub mod Puts
+pub mod Entries
+pub mod Holds
+pub mod Represent
+pub mod Meaning

@@ -1,0 +1,110 @@
+-- The records of a table as it is encoded, and the tally after each.
+use mathlib.Core.Path.{_≡_, refl}
+use mathlib.Core.Bool.{true, false}
+use mathlib.Core.List.{List, [], _∷_, _++_, List·Memᴰ}
+use Prim.Native.Nat.{ℕ, _+_, _*_, _/_, _%_}
+use native.Mathlib.Omega.{arith}
+use lib.ListN.{length}
+use Rattle.table.specs.declared.Relation.{Relation}
+use Rattle.table.specs.declared.Relation.the-variants.{Under, AtMost, Exactly, AtLeast, Over}
+use Rattle.table.specs.declared.Refusal.{Refusal}
+use Rattle.table.specs.declared.Read.the-variants as read
+use Rattle.wire.specs.declared.Tally.{Tally}
+use Rattle.wire.specs.declared.Verdict.{Verdict}
+use Rattle.wire.specs.declared.Verdict.the-variants.{Refused, Next, Last}
+use Rattle.wire.specs.Records.{Record}
+use Rattle.wire.specs.Reading.{judgeOf, check}
+use Rattle.wire.specs.Laws.{onward}
+use Rattle.wire.specs.Listing.{Entry, guard, reset, entry, relationOf, contentOf, stepsIn, guardsOf}
+use Rattle.format.specs.Encode.{relationCode, LegalEntry}
+
+-- the record of the head; and at a place, of an entry, of a finished step and of the end
+abbrev pub headWith : ℕ → Record
+headWith n = record { place = 0; kind = 1; body = n ∷ [] }
+
+abbrev pub entryAt : ℕ → Entry → Record
+entryAt at (guard g) =
+    record {
+      place = at;
+      kind = 2;
+      body = g .clock ∷ relationCode (g .relation) ∷ g .constant % 256 ∷ g .constant / 256 ∷ [];
+    }
+entryAt at (reset j) = record { place = at; kind = 3; body = j ∷ [] }
+
+abbrev pub finishAt : ℕ → Record
+finishAt at = record { place = at; kind = 4; body = [] }
+
+abbrev pub endAt : ℕ → Record
+endAt at = record { place = at; kind = 5; body = [] }
+
+-- what an entry adds to the number of guards
+abbrev pub weight : Entry → ℕ
+weight (guard g) = 1
+weight (reset j) = 0
+
+-- the tally after the head; after an entry; and after a step, with the number of guards by then
+abbrev pub headTally : ℕ → Tally
+headTally n = record { clocks = n; steps = 0; guards = 0; pending = false }
+
+abbrev pub entered : Tally → Entry → Tally
+entered t e = record { clocks = t .clocks; steps = t .steps; guards = t .guards + weight e; pending = true }
+
+abbrev pub stepped : Tally → ℕ → Tally
+stepped t c = record { clocks = t .clocks; steps = t .steps + 1; guards = c; pending = false }
+
+-- steps that a table of n clocks may have
+abbrev pub LegalStep : ℕ → List Entry → Type 0
+LegalStep n s = (e : Entry) → List·Memᴰ e s → LegalEntry n e
+
+abbrev pub LegalSteps : ℕ → List (List Entry) → Type 0
+LegalSteps n ss = (s : List Entry) → List·Memᴰ s ss → LegalStep n s
+
+-- a relation and a constant are read back from their bytes
+pub relation-back : (r : Relation) → relationOf (relationCode r) ≡ r
+relation-back Under = refl
+relation-back AtMost = refl
+relation-back Exactly = refl
+relation-back AtLeast = refl
+relation-back Over = refl
+
+pub constant-back : (c : ℕ) → c % 256 + c / 256 * 256 ≡ c
+constant-back c = omega arith
+
+-- the record of an entry says that entry
+pub content-entry : (at : ℕ) (e : Entry) → contentOf (entryAt at e) ≡ entry e
+content-entry at (guard g) =
+    λ i. entry
+    (guard
+    (record {
+      clock = g .clock;
+      relation = relation-back (g .relation) i;
+      constant = constant-back (g .constant) i;
+    }))
+content-entry at (reset j) = refl
+
+-- how the answer goes on from a verdict, and the steps from an entry
+pub check-judged : (len : ℕ) (t : Tally) (r : Record) (rs : List Record) (v : Verdict) → judgeOf t r ≡ v
+    → check len t (r ∷ rs) ≡ onward len t rs v
+unfolding check
+check-judged len t r rs (Refused f) e = rw (e, check)
+check-judged len t r rs (Next u) e = rw (e, check)
+check-judged len t r rs Last e = rw (e, check)
+
+pub steps-entry : (begun : List Entry) (at : ℕ) (e : Entry) (rs : List Record)
+    → stepsIn begun (entryAt at e ∷ rs) ≡ stepsIn (begun ++ (e ∷ [])) rs
+steps-entry begun at e rs = says (entryAt at e) (content-entry at e)
+  where
+    says : (r : Record) → contentOf r ≡ entry e → stepsIn begun (r ∷ rs) ≡ stepsIn (begun ++ (e ∷ [])) rs
+    says r c = unfold stepsIn in rw (c, stepsIn)
+
+pub guards-more : (e : Entry) (es : List Entry) → length (guardsOf (e ∷ es)) ≡ weight e + length (guardsOf es)
+unfolding guardsOf
+guards-more (guard g) es = omega arith
+guards-more (reset j) es = omega arith
+
+-- a refusal is no count, and false is not true
+pub refused-counted : {A : Type 0} {f : Refusal} {n L g : ℕ} → read.Refused f ≡ read.Counted n L g → A
+refused-counted e = let z : _≡_ {A = ℕ} 0 1 = cc in absurd (omega arith)
+
+pub false-true : {A : Type 0} → false ≡ true → A
+false-true e = let z : _≡_ {A = ℕ} 0 1 = cc in absurd (omega arith)

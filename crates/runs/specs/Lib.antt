@@ -1,0 +1,28 @@
+-- definitions
+pub mod Run
+pub mod Demand
+pub mod Loop
+-- runs step by step
+pub mod Tools
+pub mod Steps
+pub mod Replay
+pub mod Readings
+pub mod RunSteps
+-- rounds, other parts, fewer steps, starts
+pub mod Copies
+pub mod RunLaws
+pub mod Allowed
+pub mod ExistsSteps
+-- a run is a solution of its demands
+pub mod Satisfies
+pub mod RowSteps
+pub mod Rows
+pub mod RunReplay
+-- a loop refutes every run, and a negative cycle is a loop
+pub mod Parts
+pub mod Refutes
+pub mod Tighten
+pub mod Cycle
+-- the demand order, for programs that list or use it
+pub mod DemandOrder
+pub mod DemandRange

@@ -1,0 +1,11 @@
+// What runs of a table are, and what contradicts them: definitions and laws, in specs/.
+
+// A difference constraint between two moments (01: a demand): time(to) − time(from) is at most d ticks, or under d if strict. The
+// bound d is up − down, and one of these is 0.
+pub struct Demand {
+    pub from: usize,
+    pub to: usize,
+    pub up: u64,
+    pub down: u64,
+    pub strict: bool,
+}

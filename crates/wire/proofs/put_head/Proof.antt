@@ -1,0 +1,12 @@
+use borrow.Author.Needs.{needs}
+use Rattle.wire.specs.Fill.{putHead}
+use Rattle.wire.proofs.Tests.{tests}
+use Rattle.wire.proofs.put_head.Statement.{statement}
+use Rattle.wire.proofs.put_head.Tie as tie
+
+returns : tie.Need-returns
+unfolding putHead
+returns c = search (needs, tests)
+
+pub put-head-spec : {M : Type 1} → statement M
+put-head-spec = tie.close (tie.spec returns)

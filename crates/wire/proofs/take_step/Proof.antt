@@ -1,0 +1,22 @@
+use borrow.Author.Needs.{needs}
+use Rattle.wire.specs.Reading.{finished}
+use Rattle.wire.proofs.Tests.{tests}
+use Rattle.wire.proofs.take_step.Statement.{statement}
+use Rattle.wire.proofs.take_step.Tie as tie
+
+refuse-requires : tie.Need-refuse-requires
+refuse-requires c κs = search needs
+
+returns : tie.Need-returns
+unfolding finished
+returns c = search (needs, tests)
+
+add-t5 : tie.Need-add-t5
+add-t5 c = search needs
+
+returns-2 : tie.Need-returns-2
+unfolding finished
+returns-2 c = search (needs, tests)
+
+pub take-step-spec : {M : Type 1} → statement M
+take-step-spec = tie.close (tie.spec refuse-requires returns add-t5 returns-2)

@@ -1,0 +1,83 @@
+use borrow.Author.Needs.{needs}
+use mathlib.Core.Path.{sym, ap, _∙_}
+use Prim.Native.Nat.{_+_}
+use lib.ListN.{drop}
+use Rattle.wire.specs.Records.{recordAt}
+use Rattle.wire.specs.Reading.{headed, zeroed, wholeOf}
+use Rattle.wire.proofs.Bytes.{head-is, reset-is, step-is, end-is}
+use Rattle.wire.proofs.take_whole.Statement.{statement}
+use Rattle.wire.proofs.take_whole.Tie as tie
+
+add-byte-at : tie.Need-add-byte-at
+add-byte-at c = search needs
+
+byte-at-requires : tie.Need-byte-at-requires
+byte-at-requires c κs = search needs
+
+take-head-requires : tie.Need-take-head-requires
+take-head-requires c κs = search needs
+
+returns : tie.Need-returns
+returns c =
+    let s = c .before .before .before .before in
+    c .take-head .ensures ∙ ap (headed (s .args .at)) (c .before .byte-at .ensures .0)
+    ∙ head-is (s .args .bytes .now) (s .args .at) (s .args .t) (s .args .k) (c .before .before .if1 .taken)
+
+read-guard-requires : tie.Need-read-guard-requires
+read-guard-requires c κs = search needs
+
+returns-2 : tie.Need-returns-2
+returns-2 c =
+    let s = c .before .before .before .before in
+    c .read-guard .ensures ∙ ap (λ k. wholeOf (s .args .t) (recordAt (s .args .at) k (drop (s .args .at + 1) (s .args .bytes .now)))) (sym (c .before .if2 .taken))
+
+add-byte-at-2 : tie.Need-add-byte-at-2
+add-byte-at-2 c = search needs
+
+byte-at-requires-2 : tie.Need-byte-at-requires-2
+byte-at-requires-2 c κs = search needs
+
+take-reset-requires : tie.Need-take-reset-requires
+take-reset-requires c κs = search needs
+
+returns-3 : tie.Need-returns-3
+returns-3 c =
+    let s = c .before .before .before .before .before .before in
+    c .take-reset .ensures ∙ ap (zeroed (s .args .t) (s .args .at)) (c .before .byte-at2 .ensures .0)
+    ∙ reset-is (s .args .bytes .now) (s .args .at) (s .args .t) (s .args .k) (c .before .before .if3 .taken)
+
+take-step-requires : tie.Need-take-step-requires
+take-step-requires c κs = search needs
+
+returns-4 : tie.Need-returns-4
+returns-4 c =
+    let s = c .before .before .before .before .before .before in
+    c .take-step .ensures ∙ step-is (s .args .bytes .now) (s .args .at) (s .args .t) (s .args .k) (c .before .if4 .taken)
+
+take-end-requires : tie.Need-take-end-requires
+take-end-requires c κs = search needs
+
+returns-5 : tie.Need-returns-5
+returns-5 c =
+    let s = c .before .before .before .before .before .before in
+    c .take-end .ensures
+    ∙ end-is (s .args .bytes .now) (s .args .at) (s .args .t) (s .args .k) (c .before .before .before .before .if1 .left) (c .before .before .before .if2 .left) (c .before .before .if3 .left) (c .before .if4 .left)
+
+pub take-whole-spec : {M : Type 1} → statement M
+take-whole-spec =
+    tie.close
+    (tie.spec
+    add-byte-at
+    byte-at-requires
+    take-head-requires
+    returns
+    read-guard-requires
+    returns-2
+    add-byte-at-2
+    byte-at-requires-2
+    take-reset-requires
+    returns-3
+    take-step-requires
+    returns-4
+    take-end-requires
+    returns-5)

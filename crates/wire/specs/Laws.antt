@@ -1,0 +1,104 @@
+-- How the answer goes on, one record at a time.
+use mathlib.Core.Path.{_≡_, refl, sym, ap, _∙_}
+use mathlib.Core.List.{List, [], _∷_}
+use Prim.Native.Nat.{ℕ, _+_, _≤_, _<_}
+use lib.ListN.{length, getD, drop}
+use native.Mathlib.Omega.{arith}
+use native.Mathlib.Decide.{decLe}
+use borrow.Author.Tests.{le-leb, lt-leb}
+use Rattle.table.specs.declared.Fault.the-variants as fault
+use Rattle.table.specs.declared.Refusal.{Refusal}
+use Rattle.table.specs.declared.Read.{Read}
+use Rattle.table.specs.declared.Read.the-variants as read
+use Rattle.wire.specs.declared.Tally.{Tally}
+use Rattle.wire.specs.declared.Verdict.{Verdict}
+use Rattle.wire.specs.declared.Verdict.the-variants.{Refused, Next, Last}
+use Rattle.wire.specs.Records.{Record, bodySize, recordAt, recordsAt, records-none, records-next}
+use Rattle.table.specs.declared.Table.{Table}
+use Rattle.wire.specs.Fill.{empty, put, filled, tableOf}
+use Rattle.wire.specs.Reading.{judgeOf, tail, check, start, readOf}
+
+-- what a verdict makes of the records after it
+abbrev pub onward : ℕ → Tally → List Record → Verdict → Read
+onward len t rs (Refused f) = read.Refused f
+onward len t rs (Next u) = check len u rs
+onward len t rs Last = tail t rs
+
+module _ (bytes : List ℕ) (t : Tally) (at : ℕ) where
+  -- the record at a place is judged, and the rest begins after it
+  pub check-on : (len : ℕ) → at < length bytes
+      → check len t (recordsAt bytes at)
+      ≡ onward len t (recordsAt bytes (at + 1 + bodySize (getD bytes at 0))) (judgeOf t (recordAt at (getD bytes at 0) (drop (at + 1) bytes)))
+  check-on len h = ap (check len t) (records-next bytes at h) ∙ one len t _ _
+    where
+      one : (len : ℕ) (t : Tally) (r : Record) (rs : List Record) → check len t (r ∷ rs) ≡ onward len t rs (judgeOf t r)
+      one len t r rs = unfold check in split (judgeOf t r)
+        where
+          split : (v : Verdict) → elim v [ Refused f ↦ read.Refused f | Next u ↦ check len u rs | Last ↦ tail t rs ] ≡ onward len t rs v
+          split (Refused f) = refl
+          split (Next u) = refl
+          split Last = refl
+
+  -- no record begins where one is due
+  pub check-out : (len : ℕ) → length bytes ≤ at → check len t (recordsAt bytes at) ≡ read.Refused (record { fault = fault.Cut; place = len })
+  unfolding check
+  check-out len h = ap (check len t) (records-none bytes at h)
+
+  -- a byte follows the end, or none
+  pub tail-more : at < length bytes → tail t (recordsAt bytes at) ≡ read.Refused (record { fault = fault.Tail; place = at })
+  tail-more h = ap (tail t) (records-next bytes at h)
+
+  pub tail-none : length bytes ≤ at → tail t (recordsAt bytes at) ≡ read.Counted (t .clocks) (t .steps) (t .guards)
+  tail-none h = ap (tail t) (records-none bytes at h)
+
+-- the answer of a table that is too long, and of one that is not
+pub read-long : (bytes : List ℕ) → 4096 < length bytes → readOf bytes ≡ read.Refused (record { fault = fault.Length; place = 4096 })
+unfolding readOf
+read-long bytes h = simp (lt-leb (length bytes) 4096 h)
+
+pub read-short : (bytes : List ℕ) → length bytes ≤ 4096 → readOf bytes ≡ check (length bytes) start (recordsAt bytes 0)
+unfolding readOf
+read-short bytes h = simp (le-leb (length bytes) 4096 h)
+
+-- a verdict of the record at a place, and the answer that was due there
+pub go-on : (bytes : List ℕ) (t : Tally) (at kind size : ℕ) (v : Verdict) → at < length bytes
+    → v ≡ judgeOf t (recordAt at (getD bytes at 0) (drop (at + 1) bytes)) → kind ≡ getD bytes at 0 → size ≡ bodySize kind
+    → check (length bytes) t (recordsAt bytes at) ≡ readOf bytes
+    → onward (length bytes) t (recordsAt bytes (at + 1 + size)) v ≡ readOf bytes
+go-on bytes t at kind size v h judged k s due =
+    (λ i. onward (length bytes) t (recordsAt bytes (at + 1 + (s ∙ ap bodySize k) i)) (judged i))
+    ∙ sym (check-on bytes t at (length bytes) h) ∙ due
+
+-- a table by value, one record further
+pub filled-on : (bytes : List ℕ) (t u : Table) (at kind size : ℕ) → at < length bytes → kind ≡ getD bytes at 0 → size ≡ bodySize kind
+    → u ≡ put (recordAt at kind (drop (at + 1) bytes)) t
+    → filled u (recordsAt bytes (at + 1 + size)) ≡ filled t (recordsAt bytes at)
+unfolding filled
+filled-on bytes t u at kind size h k s p =
+    (λ i. filled (p i) (recordsAt bytes (at + 1 + s i)))
+    ∙ (λ i. filled (put (recordAt at (k i) (drop (at + 1) bytes)) t) (recordsAt bytes (at + 1 + bodySize (k i))))
+    ∙ ap (filled t) (sym (records-next bytes at h))
+
+pub filled-out : (bytes : List ℕ) (t : Table) (at : ℕ) → length bytes ≤ at → filled t (recordsAt bytes at) ≡ t
+unfolding filled
+filled-out bytes t at h = ap (filled t) (records-none bytes at h)
+
+-- what is accepted is short
+pub counted-short : (bytes : List ℕ) (n l g : ℕ) → readOf bytes ≡ read.Counted n l g → length bytes ≤ 4096
+counted-short bytes n l g e = go (decLe (length bytes) 4096)
+  where
+    go : Dec (length bytes ≤ 4096) → length bytes ≤ 4096
+    go (yes h) = h
+    go (no h) = absurd (clash (read-long bytes (omega arith)))
+      where
+        clash : readOf bytes ≡ read.Refused (record { fault = fault.Length; place = 4096 }) → ⊥
+        clash r = let z : _≡_ {A = ℕ} 0 1 = cc in omega arith
+
+-- the table by value of accepted and of refused bytes
+pub table-counted : (bytes : List ℕ) (n l g : ℕ) → readOf bytes ≡ read.Counted n l g → tableOf bytes ≡ filled empty (recordsAt bytes 0)
+unfolding tableOf
+table-counted bytes n l g e = rw (tableOf, e)
+
+pub table-refused : (bytes : List ℕ) (f : Refusal) → readOf bytes ≡ read.Refused f → tableOf bytes ≡ empty
+unfolding tableOf
+table-refused bytes f e = rw (tableOf, e)

@@ -1,0 +1,106 @@
+-- Records to the answer: the tests in the order of 01's rows, from the left, and the first fault counts.
+use mathlib.Core.Bool.{Bool, true, false, cond, not, _&&_}
+use mathlib.Core.List.{List, [], _∷_}
+use Prim.Native.Nat.{ℕ, _+_, _*_}
+use lib.Dec.{eqb, ltb, leb}
+use lib.ListN.{length, getD}
+use Rattle.table.specs.declared.Fault.{Fault}
+use Rattle.table.specs.declared.Fault.the-variants as fault
+use Rattle.table.specs.declared.Refusal.{Refusal}
+use Rattle.table.specs.declared.Read.{Read}
+use Rattle.table.specs.declared.Read.the-variants as read
+use Rattle.wire.specs.declared.Tally.{Tally}
+use Rattle.wire.specs.declared.Verdict.{Verdict}
+use Rattle.wire.specs.declared.Verdict.the-variants.{Refused, Next, Last}
+use Rattle.wire.specs.Records.{Record, bodySize, records}
+
+-- refused for a fault at a place, unless the test holds
+abbrev pub need : Bool → Fault → ℕ → Verdict → Verdict
+need true f place then = then
+need false f place then = Refused (record { fault = f; place = place })
+
+-- a number from one to another
+abbrev pub within : ℕ → ℕ → ℕ → Bool
+within low x high = leb low x && leb x high
+
+-- both tests hold, or neither
+abbrev pub agree : Bool → Bool → Bool
+agree true b = b
+agree false b = not b
+
+-- a head at a place, with a number of clocks
+unfoldable pub headed : ℕ → ℕ → Verdict
+headed place n =
+    need (within 1 n 6) fault.Head place
+    (Next (record { clocks = n; steps = 0; guards = 0; pending = false }))
+
+-- a guard: clock, relation, constant
+unfoldable pub guarded : Tally → ℕ → ℕ → ℕ → ℕ → Verdict
+guarded t place clock relation constant =
+    need (ltb (t .guards) 64) fault.Bounds place
+    (need (within 1 clock (t .clocks)) fault.Timer place
+    (need (leb relation 4) fault.Relation place
+    (need (leb constant 4000) fault.Constant place
+    (Next (record { clocks = t .clocks; steps = t .steps; guards = t .guards + 1; pending = true })))))
+
+-- a reset of a clock
+unfoldable pub zeroed : Tally → ℕ → ℕ → Verdict
+zeroed t place clock =
+    need (within 1 clock (t .clocks)) fault.Timer place
+    (Next (record { clocks = t .clocks; steps = t .steps; guards = t .guards; pending = true }))
+
+-- a step is finished
+unfoldable pub finished : Tally → ℕ → Verdict
+finished t place =
+    need (ltb (t .steps) 16) fault.Steps place
+    (Next (record { clocks = t .clocks; steps = t .steps + 1; guards = t .guards; pending = false }))
+
+-- the end
+unfoldable pub ended : Tally → ℕ → Verdict
+ended t place = need (leb 1 (t .steps) && not (t .pending)) fault.Steps place Last
+
+-- byte i, from 0, of a record's body
+abbrev pub byte : Record → ℕ → ℕ
+byte r i = getD (r .body) i 0
+
+-- the constant of a guard's record: two bytes, the low one first
+abbrev pub constantOf : Record → ℕ
+constantOf r = byte r 2 + byte r 3 * 256
+
+-- a whole record, by its kind
+unfoldable pub wholeOf : Tally → Record → Verdict
+wholeOf t r =
+    cond (eqb (r .kind) 1) (headed (r .place) (byte r 0))
+    (cond (eqb (r .kind) 2) (guarded t (r .place) (byte r 0) (byte r 1) (constantOf r))
+    (cond (eqb (r .kind) 3) (zeroed t (r .place) (byte r 0))
+    (cond (eqb (r .kind) 4) (finished t (r .place))
+    (ended t (r .place)))))
+
+-- a record: its kind, its place as or after the head, its length, and then its body
+unfoldable pub judgeOf : Tally → Record → Verdict
+judgeOf t r =
+    need (within 1 (r .kind) 5) fault.Kind (r .place)
+    (need (agree (eqb (r .place) 0) (eqb (r .kind) 1)) fault.Head (r .place)
+    (need (leb (bodySize (r .kind)) (length (r .body))) fault.Cut (r .place)
+    (wholeOf t r)))
+
+-- after the end no record begins
+abbrev pub tail : Tally → List Record → Read
+tail t [] = read.Counted (t .clocks) (t .steps) (t .guards)
+tail t (r ∷ rs) = read.Refused (record { fault = fault.Tail; place = r .place })
+
+-- the records from the left, in a table of a length
+unfoldable pub check : ℕ → Tally → List Record → Read
+check len t [] = read.Refused (record { fault = fault.Cut; place = len })
+check len t (r ∷ rs) = elim (judgeOf t r) [ Refused f ↦ read.Refused f | Next u ↦ check len u rs | Last ↦ tail t rs ]
+
+-- before the first record
+abbrev pub start : Tally
+start = record { clocks = 0; steps = 0; guards = 0; pending = false }
+
+-- the answer to the question "read"
+unfoldable pub readOf : List ℕ → Read
+readOf bytes =
+    cond (leb (length bytes) 4096)
+    (check (length bytes) start (records bytes))
+    (read.Refused (record { fault = fault.Length; place = 4096 }))

@@ -1,0 +1,47 @@
+-- The closure of a matrix, told by its solutions: every matrix has one, or has no solution.
+use mathlib.Core.Logic.{_⊎_, inl, inr, ⊎-elim}
+use Prim.Native.Nat.{ℕ, zero, suc, _≤_, _<_}
+use native.Mathlib.Omega.{arith}
+use Rattle.zones.specs.Bound.{_⊑_, weak-zero, dec⊑, ⊑-trans}
+use Rattle.zones.specs.Matrix.{Matrix, Solves, Solution, Closed, Flat, pivot, pivot-is}
+use Rattle.zones.specs.Matrix.{Pivots, start, next, pivots-low, pivots-keep, pivots-back, pivots-fail}
+use Rattle.zones.specs.Floyd.{pivots-closed}
+use Rattle.zones.specs.Extend.{solve}
+
+-- C is a closure of M: closed, no looser, and with the same solutions.
+pub record Closure (N : ℕ) (M C : Matrix) : Type 0 where
+  pub closed : Closed N C
+  pub low : (a b : ℕ) → a < N → b < N → C a b ⊑ M a b
+  pub keeps : (P : ℕ) (x : ℕ → ℕ) → 0 < P → Solves N P M x → Solves N P C x
+  pub back : (P : ℕ) (x : ℕ → ℕ) → 0 < P → Solves N P C x → Solves N P M x
+
+-- A closure of a flat matrix is flat.
+pub closure-flat : {N : ℕ} {M C : Matrix} → Closure N M C → Flat N M → Flat N C
+closure-flat c f a h = ⊑-trans (c .low a a h h) (f a h)
+
+-- A matrix with a closure has a solution.
+pub closure-solution : {N : ℕ} {M C : Matrix} → Closure N M C → Solution N M
+closure-solution {N} {C = C} c =
+    let (P, l, (x, s)) = solve N C (c .closed) in (P, l, (x, c .back P x l s))
+
+-- All pivots in turn make a closure.
+pub pivots-closure : {N : ℕ} {M C : Matrix} → Pivots N M N C → Closure N M C
+pivots-closure r = record { closed = pivots-closed r; low = pivots-low r; keeps = pivots-keep r; back = pivots-back r }
+
+-- The first k pivots can be made, or there is no solution.
+pivoting : (N : ℕ) (M : Matrix) (k : ℕ) → k ≤ N → ((L : Matrix) × Pivots N M k L) ⊎ (¬ Solution N M)
+pivoting N M zero h = inl (M, start)
+pivoting N M (suc k) h = ⊎-elim (λ (L, r). go L r (dec⊑ weak-zero (L k k))) inr (pivoting N M k (omega arith))
+  where
+    go : (L : Matrix) → Pivots N M k L → Dec (weak-zero ⊑ L k k)
+        → ((L : Matrix) × Pivots N M (suc k) L) ⊎ (¬ Solution N M)
+    go L r (yes z) = inl (pivot k L, next r h z (pivot-is N k L))
+    go L r (no n) = inr (pivots-fail r h n)
+
+-- A matrix has a closure, or no solution.
+pub closing : (N : ℕ) (M : Matrix) → ((C : Matrix) × Closure N M C) ⊎ (¬ Solution N M)
+closing N M = ⊎-elim (λ r. inl (r .0, pivots-closure (r .1))) inr (pivoting N M N (omega arith))
+
+-- So it is decided whether a matrix has a solution.
+pub solvable : (N : ℕ) (M : Matrix) → Dec (Solution N M)
+solvable N M = ⊎-elim (λ r. yes (closure-solution (r .1))) no (closing N M)

@@ -1,0 +1,15 @@
+pub mod Choice
+pub mod Bound
+pub mod Values
+pub mod Matrix
+pub mod Floyd
+pub mod Extend
+pub mod Closure
+pub mod Tight
+pub mod Weight
+pub mod Linear
+pub mod Codes
+pub mod Tab
+pub mod Cells
+pub mod Building
+pub mod Closing
