@@ -1,9 +1,8 @@
 -- Tables to bytes: what 01 says the format is, the other way round.
 use mathlib.Core.List.{List, [], _∷_, _++_}
-use Prim.Native.Nat.{ℕ, _+_, _/_, _%_, _≤_, _<_}
+use Prim.Native.Nat.{ℕ, _+_, _/_, _%_, _≤_}
 use mathlib.Core.List.{List·Memᴰ}
 use lib.ListN.{length}
-use Rattle.table.specs.declared.Guard.{Guard}
 use Rattle.table.specs.declared.Relation.{Relation}
 use Rattle.table.specs.declared.Relation.the-variants.{Under, AtMost, Exactly, AtLeast, Over}
 use Rattle.wire.specs.Listing.{Entry, guard, reset, Listing, guardsOf}

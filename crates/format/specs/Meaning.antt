@@ -3,10 +3,9 @@ use mathlib.Core.Path.{_≡_, sym, subst, _∙_, ap}
 use mathlib.Core.List.{List}
 use Prim.Native.Nat.{ℕ}
 use Rattle.table.specs.declared.Read.the-variants as read
-use Rattle.table.specs.declared.Table.{Table}
 use Rattle.wire.specs.Records.{records}
 use Rattle.wire.specs.Reading.{readOf}
-use Rattle.wire.specs.Listing.{Listing, listing}
+use Rattle.wire.specs.Listing.{listing}
 use Rattle.wire.specs.Fill.{empty, filled, tableOf}
 use Rattle.wire.specs.Laws.{table-counted}
 use Rattle.format.specs.Encode.{encode}

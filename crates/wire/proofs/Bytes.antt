@@ -1,5 +1,5 @@
 -- The bytes of a record, by their places in the table.
-use mathlib.Core.Path.{_≡_, refl, sym, _∙_, ap}
+use mathlib.Core.Path.{_≡_, sym, _∙_, ap}
 use mathlib.Core.List.{List}
 use mathlib.Core.Bool.{true, false}
 use Prim.Native.Nat.{ℕ, _+_, _*_, _-_, _≤_, _<_, min}
@@ -8,7 +8,7 @@ use lib.ListN.{length, getD, take, drop, length-take, length-drop}
 use lib.Seq.{getD-take, getD-drop}
 use lib.Dec.{leb, lit<}
 use borrow.Author.Tests.{ne-eqb, le-leb, lt-leb}
-use Rattle.wire.specs.Records.{Record, bodySize, recordAt}
+use Rattle.wire.specs.Records.{bodySize, recordAt}
 use Rattle.table.specs.declared.Guard.{Guard}
 use Rattle.table.specs.declared.Table.{Table}
 use Rattle.wire.specs.Fill.{putHead, putGuard, putReset, putStep, put}

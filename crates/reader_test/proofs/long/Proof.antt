@@ -1,3 +1,4 @@
+-- `reader_test::long` meets its contract: the loop keeps the array's length and the count's range.
 use borrow.Author.Needs.{needs}
 use mathlib.Core.Path.{_≡_}
 use Prim.Native.Nat.{_≤_, _-_}

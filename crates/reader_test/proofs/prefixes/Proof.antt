@@ -1,3 +1,4 @@
+-- `reader_test::prefixes` meets its contract: each prefix lies within the table.
 use borrow.Author.Needs.{needs}
 use mathlib.Core.Path.{_≡_, sym}
 use lib.Seq.{length-take-le}

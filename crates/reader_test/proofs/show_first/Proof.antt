@@ -1,3 +1,4 @@
+-- `reader_test::show_first` meets its contract: the part is as long as its end says.
 use borrow.Author.Needs.{needs}
 use mathlib.Core.Path.{sym}
 use lib.Seq.{length-take-le}

@@ -1,3 +1,4 @@
+-- `wire::empty_table` meets its contract: it is the definition, field by field.
 use borrow.Author.Needs.{needs}
 use Rattle.wire.specs.Fill.{empty}
 use Rattle.wire.proofs.Tests.{tests}

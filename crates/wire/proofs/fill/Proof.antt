@@ -1,3 +1,4 @@
+-- `wire::fill` meets its contract: the table so far, with the records left, fills in as the empty one with all of them. The measure is what is left of the bytes.
 use borrow.Author.Needs.{needs}
 use mathlib.Core.Path.{_≡_, sym, ap, _∙_}
 use Prim.Native.Nat.{_-_}

@@ -1,5 +1,6 @@
+-- `wire::judge` meets its contract: the kind is the byte at the place.
 use borrow.Author.Needs.{needs}
-use mathlib.Core.Path.{sym, ap, _∙_}
+use mathlib.Core.Path.{ap, _∙_}
 use Prim.Native.Nat.{_+_}
 use lib.ListN.{drop}
 use Rattle.wire.specs.Records.{recordAt}

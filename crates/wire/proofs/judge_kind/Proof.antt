@@ -1,3 +1,4 @@
+-- `wire::judge_kind` meets its contract: the tests come in the definition's order.
 use borrow.Author.Needs.{needs}
 use mathlib.Core.Path.{sym, _∙_}
 use native.Mathlib.Omega.{arith}

@@ -1,3 +1,4 @@
+-- `wire::parse` meets its contract: the table is filled in exactly where the answer is a count.
 use borrow.Author.Needs.{needs}
 use mathlib.Core.Path.{sym, _∙_}
 use Rattle.wire.specs.Laws.{counted-short, table-counted, table-refused}

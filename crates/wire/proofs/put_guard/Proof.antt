@@ -1,3 +1,4 @@
+-- `wire::put_guard` meets its contract: what does not fit is left out, as in the definition.
 use borrow.Author.Needs.{needs}
 use Rattle.wire.specs.Fill.{putGuard}
 use Rattle.wire.proofs.Tests.{tests}

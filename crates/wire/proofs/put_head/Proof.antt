@@ -1,3 +1,4 @@
+-- `wire::put_head` meets its contract: only the clocks change.
 use borrow.Author.Needs.{needs}
 use Rattle.wire.specs.Fill.{putHead}
 use Rattle.wire.proofs.Tests.{tests}

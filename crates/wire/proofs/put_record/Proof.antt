@@ -1,3 +1,4 @@
+-- `wire::put_record` meets its contract: each kind puts in what the definition says.
 use borrow.Author.Needs.{needs}
 use mathlib.Core.Path.{_∙_}
 use Rattle.wire.proofs.Bytes.{head-put, guard-put, reset-put, step-put, none-put}

@@ -1,5 +1,5 @@
+-- `wire::read` meets its contract: the answer due from the records left is that of the whole table. The measure is what is left of the bytes.
 use borrow.Author.Needs.{needs}
-use native.Mathlib.Omega.{arith}
 use mathlib.Core.Path.{_≡_, sym, ap, _∙_}
 use Prim.Native.Nat.{_+_, _≤_, _-_}
 use lib.ListN.{length}
@@ -8,7 +8,6 @@ use Rattle.wire.specs.Reading.{check, readOf}
 use Rattle.wire.specs.Laws.{onward, check-out, go-on, read-long, read-short}
 use Rattle.wire.proofs.read.Statement.{statement}
 use Rattle.wire.proofs.read.Tie as tie
-use Rattle.wire.proofs.read.Reads as reads
 
 abbrev Inv-loop : tie.InvT-loop
 Inv-loop bytes len t₀ at₀ t at =

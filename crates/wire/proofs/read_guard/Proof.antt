@@ -1,3 +1,4 @@
+-- `wire::read_guard` meets its contract: its bytes are those of the record at the place.
 use borrow.Author.Needs.{needs}
 use mathlib.Core.Path.{refl, _∙_}
 use Prim.Native.Nat.{_+_, _*_}

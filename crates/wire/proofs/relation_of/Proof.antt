@@ -1,3 +1,4 @@
+-- `wire::relation_of` meets its contract: each code's test is the definition's.
 use borrow.Author.Needs.{needs}
 use Rattle.wire.proofs.Tests.{tests}
 use Rattle.wire.proofs.relation_of.Statement.{statement}

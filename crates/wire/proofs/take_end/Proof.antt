@@ -1,3 +1,4 @@
+-- `wire::take_end` meets its contract: the tests come in the definition's order.
 use borrow.Author.Needs.{needs}
 use Rattle.wire.specs.Reading.{ended}
 use Rattle.wire.proofs.Tests.{tests}

@@ -1,3 +1,4 @@
+-- `wire::take_whole` meets its contract: each kind is judged as the definition says.
 use borrow.Author.Needs.{needs}
 use mathlib.Core.Path.{sym, ap, _∙_}
 use Prim.Native.Nat.{_+_}

@@ -1,0 +1,102 @@
+-- The demands of k rounds are few.
+use mathlib.Core.Path.{_≡_, refl, ap}
+use mathlib.Core.List.{List, [], _∷_, List·Memᴰ·head, List·Memᴰ·tail}
+use Prim.Native.Nat.{ℕ, zero, suc, _+_, _*_, _≤_, _<_}
+use native.Mathlib.Omega.{arith}
+use lib.ListN.{length, getD, length-append}
+use lib.Seq.{length-slice}
+use Rattle.table.specs.Step.{Step, stepAt, stepsFrom, stepsOf, Good}
+use Rattle.table.specs.declared.Guard.{Guard}
+use Rattle.table.specs.declared.Relation.{Relation}
+use Rattle.table.specs.declared.Relation.the-variants.{Under, AtMost, Exactly, AtLeast, Over}
+use Rattle.table.specs.declared.Table.{Table}
+use Rattle.runs.specs.Run.{copies, zeroed}
+use Rattle.runs.specs.Demand.{guardDemands, guardsDemands, stepsDemands, startDemands, anyStarts}
+use Rattle.runs.specs.DemandOrder.{demands-is}
+use Rattle.runs.specs.Copies.{copies-member}
+use Rattle.runs.specs.Tools.{Every, every-nil, every-cons}
+use Rattle.constraints.specs.Rest.{demandsOf}
+use Rattle.constraints.specs.Rounds.{length-rounds}
+
+-- ---- a guard has at most two
+guard-few : (r : Relation) (c z i : ℕ) → length (guardDemands r c z i) ≤ 2
+guard-few Under c z i = omega arith
+guard-few AtMost c z i = omega arith
+guard-few Exactly c z i = omega arith
+guard-few AtLeast c z i = omega arith
+guard-few Over c z i = omega arith
+
+guards-few : (gs : List Guard) (i : ℕ) (z : ℕ → ℕ) → length (guardsDemands gs i z) ≤ 2 * length gs
+unfolding guardsDemands
+guards-few [] i z = omega arith
+guards-few (g ∷ gs) i z =
+    let one = guardDemands (g .relation) (g .constant) (z (g .clock)) i in
+    omega (
+      arith,
+      length-append one (guardsDemands gs i z),
+      guards-few gs i z,
+      guard-few (g .relation) (g .constant) (z (g .clock)) i,
+    )
+
+-- ---- a step one more, and has at most 64 guards
+abbrev Few : Step → Type 0
+Few s = length (s .guards) ≤ 64
+
+steps-few : (σ : List Step) (i : ℕ) (z : ℕ → ℕ) → Every Few σ → length (stepsDemands σ i z) ≤ 129 * length σ
+unfolding stepsDemands
+steps-few [] i z f = omega arith
+steps-few (s ∷ σ) i z f =
+    let own = guardsDemands (s .guards) (suc i) z in
+    let others = stepsDemands σ (suc i) (zeroed s (suc i) z) in
+    omega (
+      arith,
+      length-append own others,
+      guards-few (s .guards) (suc i) z,
+      f s (List·Memᴰ·head refl),
+      steps-few σ (suc i) (zeroed s (suc i) z) (λ q m. f q (List·Memᴰ·tail m)),
+    )
+
+step-few : (t : Table) (i : ℕ) → Good t → i < t .steps → Few (stepAt t i)
+unfolding stepAt
+step-few t i good l =
+    let room = good .room (i + 1) (omega arith) in
+    omega (
+      arith,
+      length-slice (getD (t .ends) i 0) (getD (t .ends) (i + 1) 0) (t .guards)
+          (omega (arith, good .guards-size, room)),
+      room,
+    )
+
+table-few : (t : Table) (i n : ℕ) → Good t → i + n ≤ t .steps → Every Few (stepsFrom t i n)
+unfolding stepsFrom
+table-few t i zero good b = every-nil Few
+table-few t i (suc n) good b =
+    every-cons Few (stepAt t i) (stepsFrom t (suc i) n) .1 (
+      step-few t i good (omega arith),
+      table-few t (suc i) n good (omega arith),
+    )
+
+-- ---- a clock has one
+starts-few : (K j n : ℕ) → length (startDemands K anyStarts j n) ≡ n
+unfolding startDemands anyStarts
+starts-few K j zero = refl
+starts-few K j (suc n) = ap suc (starts-few K (suc j) n)
+
+-- There are at most 129 for each step, and one for each clock.
+pub demands-few : (t : Table) (k : ℕ) → Good t → length (demandsOf t k) ≤ 129 * (k * t .steps) + t .clocks
+unfolding stepsOf
+demands-few t k good =
+    let σ = copies (stepsOf t) k in
+    let few : Every Few σ = λ s m. table-few t 0 (t .steps) good (omega arith) s (copies-member (stepsOf t) k m) in
+    omega (
+      arith,
+      ap length (demands-is (t .clocks) σ anyStarts),
+      length-rounds t k,
+      length-append (stepsDemands σ 0 (λ j. length σ + j)) (startDemands (length σ) anyStarts 1 (t .clocks)),
+      steps-few σ 0 (λ j. length σ + j) few,
+      starts-few (length σ) 1 (t .clocks),
+    )
+
+-- So in 1024 steps at most 132102.
+pub demands-bounded : (t : Table) (k : ℕ) → Good t → k * t .steps ≤ 1024 → length (demandsOf t k) ≤ 1024 * 129 + 6
+demands-bounded t k good few = omega (arith, demands-few t k good, good .clocks-few)

@@ -1,0 +1,10 @@
+pub mod Cursor
+pub mod Rest
+pub mod Constraints
+pub mod Count
+pub mod Moves
+pub mod Resets
+pub mod Rounds
+pub mod Left
+pub mod Turn
+pub mod Follow

@@ -1,0 +1,84 @@
+-- What accepted bytes give to the code: a sound table by value, whose demands are those of the table written down.
+use mathlib.Core.Path.{_≡_, sym, _∙_, ap, subst}
+use mathlib.Core.List.{List}
+use Prim.Native.Nat.{ℕ, _*_, _≤_}
+use lib.IntN.{ℤ}
+use lib.ListN.{length}
+use Rattle.table.specs.declared.Read.the-variants.{Counted, Refused as Denied}
+use Rattle.table.specs.declared.Refusal.{Refusal}
+use Rattle.table.specs.declared.Table.{Table}
+use Rattle.table.specs.Step.{stepsOf, Good}
+use Rattle.runs.specs.Run.{copies}
+use Rattle.runs.specs.Demand.{demands, anyStarts, Clocks}
+use Rattle.constraints.specs.Rest.{demandsOf as tableDemands}
+use Rattle.wire.specs.Reading.{readOf}
+use Rattle.wire.specs.Listing.{listing, cycle}
+use Rattle.wire.specs.Fill.{tableOf}
+use Rattle.format.specs.Found.{Bytes}
+use Rattle.format.specs.Fair.{legal-clocks}
+use Rattle.format.specs.Accepted.{Written, accepted-written}
+use Rattle.format.specs.Represent.{Represents}
+use Rattle.format.specs.Meaning.{table-represents}
+use Rattle.demands.specs.declared.Listed.{Listed}
+use Rattle.demands.specs.declared.Listed.the-variants.{Refused}
+use Rattle.demands.specs.Lines.{cells}
+use Rattle.demands.specs.Listed.{demandsOf, answerOf, listedOf, unlessRefused, rowOf}
+
+-- a good table by value, with guards on its own clocks
+pub record Sound (t : Table) : Type 0 where
+  pub good : Good t
+  pub clocks : Clocks (t .clocks) (stepsOf t)
+
+-- and k rounds of it, which are some, and have few steps
+pub record Ready (t : Table) (k : ℕ) : Type 0 where
+  pub sound : Sound t
+  pub some : 1 ≤ k
+  pub few : k * t .steps ≤ 1024
+
+-- ---- accepted bytes, and the table t that is filled in from them
+module _ (bytes : List ℕ) (small : Bytes bytes) {n L g : ℕ} (e : readOf bytes ≡ Counted n L g)
+    {t : Table} (same : t ≡ tableOf bytes) where
+  stands : Represents t (listing bytes)
+  stands = rw same (table-represents bytes small n L g e)
+
+  wrote : Written (listing bytes) bytes n L g
+  wrote = accepted-written bytes small n L g e
+
+  -- it is sound
+  pub table-sound : Sound t
+  table-sound =
+      record {
+        good = stands .good;
+        clocks =
+            subst (λ σ. Clocks (t .clocks) σ) (sym (stands .same))
+            (subst (λ m. Clocks m (cycle (listing bytes))) (sym (stands .clocks))
+            (legal-clocks (listing bytes) (wrote .legal)));
+      }
+
+  -- it has the demands of the table that is written down
+  pub table-demands : (k : ℕ) → tableDemands t k ≡ demandsOf bytes k
+  unfolding demandsOf
+  table-demands k = λ i. demands (stands .clocks i) (copies (stands .same i) k) anyStarts
+
+  listed-counted : (k room : ℕ) → answerOf (t .steps) k (length (tableDemands t k)) room ≡ listedOf bytes k room
+  unfolding listedOf
+  listed-counted k room =
+      let steps : t .steps ≡ L = stands .steps ∙ sym (wrote .steps) in
+      (λ i. answerOf (steps i) k (length (table-demands k i)) room) ∙ rw (listedOf, e)
+
+  -- the answer and the row that are right for it are right
+  pub rows-counted : {r : Listed} (k room : ℕ) (row : List ℤ) {row′ : List ℤ}
+      → r ≡ answerOf (t .steps) k (length (tableDemands t k)) room → row′ ≡ unlessRefused r (cells (tableDemands t k)) row
+      → (r ≡ listedOf bytes k room) × (row′ ≡ rowOf bytes k room row)
+  unfolding rowOf
+  rows-counted k room row a b =
+      let right = a ∙ listed-counted k room in
+      (right, b ∙ (λ i. unlessRefused (right i) (cells (table-demands k i)) row))
+
+-- ---- refused bytes
+pub rows-refused : (bytes : List ℕ) (f : Refusal) (k room : ℕ) (row : List ℤ) → readOf bytes ≡ Denied f
+    → (Refused f ≡ listedOf bytes k room) × (row ≡ rowOf bytes k room row)
+unfolding rowOf listedOf
+rows-refused bytes f k room row e =
+    let same : Refused f ≡ listedOf bytes k room = rw (listedOf, e) in
+    (same, ap (λ r. unlessRefused r (cells (demandsOf bytes k)) row) same)

@@ -1,0 +1,22 @@
+-- the effect of a list of steps
+pub mod Describes
+-- of one step
+pub mod Single
+pub mod Tightened
+pub mod Demands
+pub mod StepDemands
+-- of two lists of steps, one after the other
+pub mod Outer
+pub mod Join
+pub mod Effects
+-- its entries are in range
+pub mod Slide
+pub mod Range
+-- rounds: runs from an allowed start, and where their number does not matter
+pub mod Begins
+pub mod Settle
+pub mod Rank
+pub mod Count
+-- the count of rounds
+pub mod Climb
+pub mod Rounds

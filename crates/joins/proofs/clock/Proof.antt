@@ -1,0 +1,42 @@
+-- `joins::clock` meets its contract: its three bounds are the constraints of the clock.
+use Rattle.joins.specs.Fetch.{clock-put}
+use borrow.Author.Needs.{needs}
+use native.Mathlib.Omega.{arith}
+use Rattle.joins.proofs.clock.Statement.{statement}
+use Rattle.joins.proofs.clock.Tie as tie
+
+last-requires : tie.Need-last-requires
+last-requires c κs = search needs
+
+tighten-requires : tie.Need-tighten-requires
+tighten-requires c κs = search needs
+
+add-tighten : tie.Need-add-tighten
+add-tighten c = search needs
+
+tighten-requires-2 : tie.Need-tighten-requires-2
+tighten-requires-2 c κs = search needs
+
+add-tighten-2 : tie.Need-add-tighten-2
+add-tighten-2 c = search needs
+
+tighten-requires-3 : tie.Need-tighten-requires-3
+tighten-requires-3 c κs = search needs
+
+returns : tie.Need-returns
+returns c =
+    let s = c .before .before .before .before in
+    clock-put (s .args .reset) (s .args .j) (c .before .before .before .last .result) (s .args .m .cells) _ _ _
+    (c .before .before .before .last .ensures .0) (c .before .before .tighten .ensures) (c .before .tighten2 .ensures) (c .tighten3 .ensures)
+
+pub clock-spec : {M : Type 1} → statement M
+clock-spec =
+    tie.close
+    (tie.spec
+    last-requires
+    tighten-requires
+    add-tighten
+    tighten-requires-2
+    add-tighten-2
+    tighten-requires-3
+    returns)

@@ -1,0 +1,78 @@
+-- `joins::clocks` meets its contract. What is left to put in, put into what is there, is what was to be put in.
+use mathlib.Core.Path.{_≡_, refl, ap, _∙_}
+use Prim.Native.Nat.{_≤_}
+use Rattle.table.specs.Step.{stepAt}
+use Rattle.effects.specs.Demands.{each}
+use Rattle.effects.specs.StepDemands.{clockDemands}
+use Rattle.joins.specs.Puts.{putOf, putsOf}
+use Rattle.joins.specs.Fetch.{clocks-less, clocks-done}
+use borrow.Author.Needs.{needs}
+use native.Mathlib.Omega.{arith}
+use Rattle.joins.proofs.clocks.Statement.{statement}
+use Rattle.joins.proofs.clocks.Tie as tie
+
+abbrev Inv-loop : tie.InvT-loop
+Inv-loop i t out₀ j₀ out j =
+    (j ≤ 6)
+    × (putsOf (each j (clockDemands (stepAt t i))) (out .cells) ≡ putsOf (each 6 (clockDemands (stepAt t i))) (out₀ .cells))
+
+abbrev μ-loop : tie.MeasureT-loop
+μ-loop i t out₀ j₀ out j = j
+
+unbounded-requires : tie.Need-unbounded-requires Inv-loop μ-loop
+unbounded-requires c κs = search needs
+
+tighten-requires : tie.Need-tighten-requires Inv-loop μ-loop
+tighten-requires c κs = search needs
+
+loop-holds : tie.Need-loop-holds Inv-loop μ-loop
+loop-holds c = (search needs, refl)
+
+mul-clock : tie.Need-mul-clock Inv-loop μ-loop
+mul-clock c = search needs
+
+add-clock : tie.Need-add-clock Inv-loop μ-loop
+add-clock c = search needs
+
+element-copy-out-clock : tie.Need-element-copy-out-clock Inv-loop μ-loop
+element-copy-out-clock c = search needs
+
+clock-requires : tie.Need-clock-requires Inv-loop μ-loop
+clock-requires c κs = search needs
+
+sub-j : tie.Need-sub-j Inv-loop μ-loop
+sub-j c = search needs
+
+loop-less : tie.Need-loop-less Inv-loop μ-loop
+loop-less c = search needs
+
+loop-again : tie.Need-loop-again Inv-loop μ-loop
+loop-again c =
+    let h = c .before .before .before in
+    let s = h .before .before .before in
+    (search needs, clocks-less (s .args .t1) (s .args .i) (h .loop .j) (h .loop .out .cells) _ (search needs) (search needs) (c .clock .ensures) ∙ h .loop .inv .1)
+
+returns : tie.Need-returns Inv-loop μ-loop
+returns c =
+    let h = c .before in
+    let s = h .before .before .before in
+    clocks-done (clockDemands (stepAt (s .args .t1) (s .args .i))) (h .loop .j) (h .loop .out .cells) _ _
+    (omega arith) (h .loop .inv .1) (h .before .before .unbounded .ensures) (h .before .tighten .ensures)
+
+pub clocks-spec : {M : Type 1} → statement M
+clocks-spec =
+    tie.close
+    (tie.spec
+    Inv-loop
+    μ-loop
+    unbounded-requires
+    tighten-requires
+    loop-holds
+    mul-clock
+    add-clock
+    element-copy-out-clock
+    clock-requires
+    sub-j
+    loop-less
+    loop-again
+    returns)

@@ -1,0 +1,67 @@
+-- Two effects joined, as the program joins them.
+use mathlib.Core.Path.{_≡_, refl, ap, sym, _∙_, subst}
+use mathlib.Core.Bool.{Bool}
+use mathlib.Core.List.{List, _++_}
+use Prim.Native.Nat.{ℕ, _+_, _^_, _≤_}
+use native.Mathlib.Omega.{arith}
+use lib.ListN.{length, length-append}
+use Rattle.table.specs.Step.{Step}
+use Rattle.runs.specs.Steps.{fairs-append}
+use Rattle.zones.specs.Matrix.{Matrix}
+use Rattle.zones.specs.Linear.{AllWithin}
+use Rattle.zones.specs.Cells.{matrix, Closing, answer, closeOf}
+use Rattle.zones.specs.Closing.{close-true, close-false}
+use Rattle.effects.specs.Describes.{Describes, describes-same}
+use Rattle.effects.specs.Join.{Glued, joined, join-fails}
+use Rattle.joins.specs.Tells.{Tells, Sized, effect-within}
+use Rattle.joins.specs.Gluing.{glueOf, outerOf, glue-ranged, glue-glued, outer-same}
+
+-- An answer about twenty-one vertices, with the middle seven left out.
+abbrev pub outward : Closing → Closing
+outward (answer ok l) = answer ok (outerOf l)
+
+-- Glued, closed, and the middle left out.
+unfoldable pub joinOf : List ℕ → List ℕ → Closing
+joinOf A B = outward (closeOf 21 (glueOf A B))
+
+pub join-is : (A B g l z : List ℕ) (ok : Bool) → g ≡ glueOf A B → closeOf 21 g ≡ answer ok l → z ≡ outerOf l
+    → joinOf A B ≡ answer ok z
+unfolding joinOf
+join-is A B g l z ok hg e hz = ap outward (ap (closeOf 21) (sym hg) ∙ e) ∙ ap (answer ok) (sym hz)
+
+abbrev Told : List Step → Closing → Type 0
+Told σ (answer ok l) = Tells σ ok l
+
+module _ {σ τ : List Step} (s : Sized σ) (t : Sized τ) where
+  -- One list of steps after the other.
+  pub sized-append : length σ + length τ ≤ 2 ^ 32 → Sized (σ ++ τ)
+  sized-append few = record {
+    fair = fairs-append σ τ (s .fair) (t .fair);
+    some = omega (arith, length-append σ τ, s .some);
+    few = omega (arith, length-append σ τ);
+  }
+
+  -- Joining the effects of both tells the effect of one after the other.
+  pub join-tells : (A B : List ℕ) → Describes σ (matrix A) → Describes τ (matrix B)
+      → (ok : Bool) (z : List ℕ) → joinOf A B ≡ answer ok z → Tells (σ ++ τ) ok z
+  unfolding joinOf
+  join-tells A B dA dB ok z e = subst (Told (σ ++ τ)) e (go (closeOf 21 (glueOf A B)) refl)
+    where
+      wA : AllWithin 14 (2 ^ 52) (matrix A)
+      wA = effect-within s A dA
+
+      wB : AllWithin 14 (2 ^ 52) (matrix B)
+      wB = effect-within t B dB
+
+      glued : Glued (matrix A) (matrix B) (matrix (glueOf A B))
+      glued = glue-glued (2 ^ 52) A B (omega arith) wA wB (dA .flat) (dB .flat)
+
+      go : (c : Closing) → closeOf 21 (glueOf A B) ≡ c → Told (σ ++ τ) (outward c)
+      go (answer ok l) q = record {
+        runs = λ h.
+            describes-same (outer-same l) (joined σ τ (matrix A) (matrix B) (s .fair) (t .fair) dA dB (matrix (glueOf A B)) glued (matrix l)
+            (close-true (2 ^ 52) (glueOf A B) (omega arith) (glue-ranged (2 ^ 52) A B wA wB) 21 ok l (omega arith) q h));
+        stuck = λ h.
+            join-fails σ τ (matrix A) (matrix B) (s .fair) (t .fair) dA dB (matrix (glueOf A B)) glued
+            (close-false (2 ^ 52) (glueOf A B) (omega arith) (glue-ranged (2 ^ 52) A B wA wB) 21 ok l (omega arith) q h);
+      }

@@ -1,0 +1,141 @@
+// Writes the demands of a table to lists of records that are too short, exact and longer, and prints them.
+use demands::Line;
+use demands::Listed;
+use libc::STDOUT_FILENO;
+ghost use mathlib.Core.Path.{_≡_};
+ghost use mathlib.Core.List.{_++_};
+ghost use Prim.Native.Nat.{_≤_};
+ghost use lib.ListN.{take, drop};
+ghost use Rattle.demands.specs.Listed.{listedOf, listRoom, rowOf, listOf};
+
+// What the list entry answers, and the records as they then are.
+struct Done {
+    listed: Listed,
+    lines: [Line; 13],
+}
+
+// The list entry at the first n of some records.
+fn run(bytes: &[u8], k: u64, row: &mut [i64], lines: [Line; 13], n: usize) -> Done
+    requires { ⌜ n ≤ 13 ⌝ }
+    ensures { λ r. ⌜ (r .listed ≡ listedOf (now (bytes .entry)) k (listRoom (now (row .entry)) (take n lines)))
+        × (now (row .exit)
+        ≡ rowOf (now (bytes .entry)) k (listRoom (now (row .entry)) (take n lines)) (now (row .entry)))
+        × (r .lines
+        ≡ listOf (now (bytes .entry)) k (listRoom (now (row .entry)) (take n lines)) (take n lines) ++ drop n lines) ⌝ }
+{
+    let mut list = lines;
+    let listed = demands::demand_list(bytes, k, row, &mut list[..n]);
+    Done {
+        listed,
+        lines: list,
+    }
+}
+
+fn word(text: &[u8]) {
+    io::write_all(STDOUT_FILENO, text);
+}
+
+fn number(x: u64) {
+    io::print_decimal(STDOUT_FILENO, x);
+}
+
+// A signed number from -4,000 up; any other as "?".
+fn signed(x: i64) {
+    if x < 0 {
+        if x < -4000 {
+            word(b"?");
+            return;
+        }
+        word(b"-");
+        number((0 - x) as u64);
+        return;
+    }
+    number(x as u64);
+}
+
+fn answer(listed: Listed) {
+    match listed {
+        Listed::Written(n) => {
+            word(b"demands ");
+            number(n as u64);
+        }
+        Listed::Refused(r) => {
+            let fault = r.fault;
+            word(b"refused ");
+            number(table::number(fault));
+            word(b" at ");
+            number(r.place as u64);
+        }
+    }
+}
+
+// A record's four numbers on a line.
+fn record(line: Line) {
+    number(line.from);
+    word(b" ");
+    number(line.to);
+    word(b" ");
+    let bound = line.bound;
+    signed(bound);
+    word(b" ");
+    number(line.strict);
+    word(b"\n");
+}
+
+fn records(lines: [Line; 13]) {
+    for i in 0..13 {
+        let line = lines[i];
+        record(line);
+    }
+    word(b"|\n");
+}
+
+// A row's cells, four to a line.
+fn cells(row: &[i64]) {
+    let mut i: usize = 0;
+    while i < row.len() {
+        signed(row[i]);
+        if i % 4 == 3 {
+            word(b"\n");
+        } else {
+            word(b" ");
+        }
+        i += 1;
+    }
+    word(b"|\n");
+}
+
+// The list entry on S2 for 3 rounds, which have 11 demands, at a list of n records that are all 9s: the answer, then all 13
+// records and the row as they then are.
+fn show(name: &[u8], row: &mut [i64], n: usize)
+    requires { ⌜ n ≤ 13 ⌝ }
+{
+    let s2 = b"\x01\x02\x02\x01\x03\x03\x00\x02\x02\x01\x05\x00\x03\x01\x04\x05";
+    let nine = Line {
+        from: 9,
+        to: 9,
+        bound: 9,
+        strict: 9,
+    };
+    let lines = [nine; 13];
+    let done = run(s2, 3, &mut *row, lines, n);
+    let listed = done.listed;
+    let list = done.lines;
+    word(name);
+    word(b": ");
+    answer(listed);
+    word(b"\n");
+    records(list);
+    cells(&*row);
+}
+
+fn main() {
+    let mut short = [9i64; 44];
+    show(b"10 records, 44 cells", &mut short, 10);
+    let mut exact = [9i64; 44];
+    show(b"11 records, 44 cells", &mut exact, 11);
+    let mut longer = [9i64; 46];
+    show(b"13 records, 46 cells", &mut longer, 13);
+    let mut narrow = [9i64; 43];
+    show(b"11 records, 43 cells", &mut narrow, 11);
+}

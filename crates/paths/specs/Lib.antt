@@ -1,0 +1,13 @@
+pub mod Walk
+pub mod Places
+pub mod Constraint
+pub mod State
+pub mod Bounds
+pub mod Relaxed
+pub mod Invariant
+pub mod Pass
+pub mod Cycle
+pub mod Search
+pub mod Sweep
+pub mod Code
+pub mod Outcome

@@ -1,0 +1,60 @@
+-- The refusal is the reader's, and the answer that of the table.
+use mathlib.Core.Path.{sym, _∙_}
+use Rattle.format.specs.Found.{Bytes}
+use Rattle.plan.specs.Admit.{refused-answers, counted-tabled, counted-answers}
+use borrow.Author.Needs.{needs}
+use native.Mathlib.Omega.{arith}
+use Rattle.plan.proofs.plan.Statement.{statement}
+use Rattle.plan.proofs.plan.Tie as tie
+use Rattle.plan.proofs.plan.Reads as reads
+use Rattle.plan.proofs.plan.Lts as lts
+use Rattle.plan.proofs.plan_table.Reads as plan-table-reads
+use Rattle.wire.proofs.parse.Reads as parse-reads
+
+-- each byte is below 256
+small : (c : tie.After-shared-slice-known) → Bytes (c .before .args .bytes .now)
+small c i = omega (arith, c .shared-slice-known .given i)
+
+parse-requires : tie.Need-parse-requires
+parse-requires c κs = search needs
+
+enum-known-answer : tie.Need-enum-known-answer
+enum-known-answer c = search needs
+
+enum-told : tie.Need-enum-told
+enum-told c = search needs
+
+plan-table-requires : tie.Need-plan-table-requires
+plan-table-requires c κs =
+    counted-tabled _ (small (c .before .before .before .before .before .before .before .before .before)) _ _ _ (sym (c .before .before .before .before .before .parse .ensures .0) ∙ c .before .before .before .enum-told .given .1) _ (c .before .before .before .before .before .parse .ensures .1)
+
+returns : tie.Need-returns
+returns c =
+    refused-answers _ _ _ _ (sym (c .before .before .before .parse .ensures .0) ∙ c .before .answer .given .1)
+
+same-length : tie.Need-same-length
+same-length c = search needs
+
+same-length-2 : tie.Need-same-length-2
+same-length-2 c = search needs
+
+same-length-3 : tie.Need-same-length-3
+same-length-3 c = search needs
+
+returns-2 : tie.Need-returns-2
+returns-2 c =
+    counted-answers _ (small (c .before .before .before .before .before .before .before .before .before .before .before .before .before .before .before .before)) _ _ _ (sym (c .before .before .before .before .before .before .before .before .before .before .before .before .parse .ensures .0) ∙ c .before .before .before .before .before .before .before .before .before .before .enum-told .given .1) _ (c .before .before .before .before .before .before .before .before .before .before .before .before .parse .ensures .1) _ _ _ _ (c .before .before .before .before .before .before .plan-table .ensures)
+
+pub plan-spec : {M : Type 1} → statement M
+plan-spec =
+    tie.close
+    (tie.spec
+    parse-requires
+    enum-known-answer
+    enum-told
+    plan-table-requires
+    returns
+    same-length
+    same-length-2
+    same-length-3
+    returns-2)

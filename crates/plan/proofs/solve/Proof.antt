@@ -1,0 +1,145 @@
+-- What the passes end with is written out as the answer.
+use Rattle.plan.specs.Solve.{start-ready, answer-times, answer-startable, answer-returns}
+use Rattle.plan.specs.Solve.{answer-loop, answer-moments, answer-found}
+use borrow.Author.Needs.{needs}
+use native.Mathlib.Omega.{arith}
+use Rattle.plan.proofs.solve.Statement.{statement}
+use Rattle.plan.proofs.solve.Tie as tie
+use Rattle.plan.proofs.solve.Reads as reads
+use Rattle.plan.proofs.solve.Lts as lts
+use Rattle.paths.proofs.fill.Reads as fill-reads
+use Rattle.paths.proofs.write_cycle.Reads as write-cycle-reads
+use Rattle.plan.proofs.passes.Reads as passes-reads
+use Rattle.plan.proofs.write_moments.Reads as write-moments-reads
+use Rattle.plan.proofs.write_starts.Reads as write-starts-reads
+
+mul-total : tie.Need-mul-total
+mul-total c = search needs
+
+add-n : tie.Need-add-n
+add-n c = search needs
+
+add-n-2 : tie.Need-add-n-2
+add-n-2 c = search needs
+
+fill-requires : tie.Need-fill-requires
+fill-requires c κs = search needs
+
+add-fill : tie.Need-add-fill
+add-fill c = search needs
+
+mul-fill : tie.Need-mul-fill
+mul-fill c = search needs
+
+fill-requires-2 : tie.Need-fill-requires-2
+fill-requires-2 c κs = search needs
+
+fill-requires-3 : tie.Need-fill-requires-3
+fill-requires-3 c κs = search needs
+
+passes-requires : tie.Need-passes-requires
+passes-requires c κs =
+    let s = c .before .before .before .before .before .before .before .before .before .before .before .before .before .before .before .before .before .before .before .before .before .before .before .before .before in
+    start-ready _ _ (s .pre .0) _ _ _ _ _ _ _ (s .pre .2) (c .before .before .before .before .before .before .before .before .before .before .before .before .before .before .fill .ensures) (c .before .before .before .before .before .before .before .before .before .before .fill2 .ensures) (c .before .before .before .before .before .before .fill3 .ensures)
+
+write-cycle-requires : tie.Need-write-cycle-requires
+write-cycle-requires c κs =
+    let s = c .before .before .before .before .before .before .before .before .before .before .before .before .before .before .before .before .before .before .before .before .before .before .before .before .before .before .before .before .before .before .before .before .before .before .before .before .before in
+    answer-returns _ _ (s .pre .0) _ _ _
+    (start-ready _ _ (s .pre .0) _ _ _ _ _ _ _ (s .pre .2) (c .before .before .before .before .before .before .before .before .before .before .before .before .before .before .before .before .before .before .before .before .before .before .before .before .before .before .fill .ensures) (c .before .before .before .before .before .before .before .before .before .before .before .before .before .before .before .before .before .before .before .before .before .before .fill2 .ensures) (c .before .before .before .before .before .before .before .before .before .before .before .before .before .before .before .before .before .before .fill3 .ensures) .begins) (c .before .before .before .before .before .before .before .before .before .before .before .passes .ensures)
+    _ (s .pre .1 .loop) (c .before .before .if1 .taken)
+
+same-length : tie.Need-same-length
+same-length c = search needs
+
+same-length-2 : tie.Need-same-length-2
+same-length-2 c = search needs
+
+same-length-3 : tie.Need-same-length-3
+same-length-3 c = search needs
+
+same-length-4 : tie.Need-same-length-4
+same-length-4 c = search needs
+
+same-length-5 : tie.Need-same-length-5
+same-length-5 c = search needs
+
+returns : tie.Need-returns
+returns c =
+    let s = c .before .before .before .before .before .before .before .before .before .before .before .before .before .before .before .before .before .before .before .before .before .before .before .before .before .before .before .before .before .before .before .before .before .before .before .before .before .before .before .before in
+    answer-loop _ _ (s .pre .0) _ _ _
+    (start-ready _ _ (s .pre .0) _ _ _ _ _ _ _ (s .pre .2) (c .before .before .before .before .before .before .before .before .before .before .before .before .before .before .before .before .before .before .before .before .before .before .before .before .before .before .before .before .before .fill .ensures) (c .before .before .before .before .before .before .before .before .before .before .before .before .before .before .before .before .before .before .before .before .before .before .before .before .before .fill2 .ensures) (c .before .before .before .before .before .before .before .before .before .before .before .before .before .before .before .before .before .before .before .before .before .fill3 .ensures) .begins) (c .before .before .before .before .before .before .before .before .before .before .before .before .before .before .passes .ensures)
+    (c .before .before .before .before .before .if1 .taken) _ _ _ _ _ (c .before .before .write-cycle .ensures)
+
+write-moments-requires : tie.Need-write-moments-requires
+write-moments-requires c κs =
+    let s = c .before .before .before .before .before .before .before .before .before .before .before .before .before .before .before .before .before .before .before .before .before .before .before .before .before .before .before .before .before .before .before .before .before .before .before .before .before in (
+      answer-times _ _ (s .pre .0) _ _ _
+          (start-ready _ _ (s .pre .0) _ _ _ _ _ _ _ (s .pre .2) (c .before .before .before .before .before .before .before .before .before .before .before .before .before .before .before .before .before .before .before .before .before .before .before .before .before .before .fill .ensures) (c .before .before .before .before .before .before .before .before .before .before .before .before .before .before .before .before .before .before .before .before .before .before .fill2 .ensures) (c .before .before .before .before .before .before .before .before .before .before .before .before .before .before .before .before .before .before .fill3 .ensures) .begins) (c .before .before .before .before .before .before .before .before .before .before .before .passes .ensures),
+      s .pre .1 .times,
+      answer-moments _ _ (s .pre .0) _ _ _
+          (start-ready _ _ (s .pre .0) _ _ _ _ _ _ _ (s .pre .2) (c .before .before .before .before .before .before .before .before .before .before .before .before .before .before .before .before .before .before .before .before .before .before .before .before .before .before .fill .ensures) (c .before .before .before .before .before .before .before .before .before .before .before .before .before .before .before .before .before .before .before .before .before .before .fill2 .ensures) (c .before .before .before .before .before .before .before .before .before .before .before .before .before .before .before .before .before .before .fill3 .ensures) .begins) (c .before .before .before .before .before .before .before .before .before .before .before .passes .ensures)
+          (c .before .before .if1 .left),
+    )
+
+write-starts-requires : tie.Need-write-starts-requires
+write-starts-requires c κs =
+    let s = c .before .before .before .before .before .before .before .before .before .before .before .before .before .before .before .before .before .before .before .before .before .before .before .before .before .before .before .before .before .before .before .before .before .before .before .before .before .before .before .before .before .before in
+    answer-startable _ _ (s .pre .0) _ _ _
+    (start-ready _ _ (s .pre .0) _ _ _ _ _ _ _ (s .pre .2) (c .before .before .before .before .before .before .before .before .before .before .before .before .before .before .before .before .before .before .before .before .before .before .before .before .before .before .before .before .before .before .before .fill .ensures) (c .before .before .before .before .before .before .before .before .before .before .before .before .before .before .before .before .before .before .before .before .before .before .before .before .before .before .before .fill2 .ensures) (c .before .before .before .before .before .before .before .before .before .before .before .before .before .before .before .before .before .before .before .before .before .before .before .fill3 .ensures) .begins) (c .before .before .before .before .before .before .before .before .before .before .before .before .before .before .before .before .passes .ensures)
+    _ (s .pre .1 .starts)
+
+same-length-6 : tie.Need-same-length-6
+same-length-6 c = search needs
+
+same-length-7 : tie.Need-same-length-7
+same-length-7 c = search needs
+
+same-length-8 : tie.Need-same-length-8
+same-length-8 c = search needs
+
+same-length-9 : tie.Need-same-length-9
+same-length-9 c = search needs
+
+same-length-10 : tie.Need-same-length-10
+same-length-10 c = search needs
+
+same-length-11 : tie.Need-same-length-11
+same-length-11 c = search needs
+
+returns-2 : tie.Need-returns-2
+returns-2 c =
+    let s = c .before .before .before .before .before .before .before .before .before .before .before .before .before .before .before .before .before .before .before .before .before .before .before .before .before .before .before .before .before .before .before .before .before .before .before .before .before .before .before .before .before .before .before .before .before in
+    answer-found _ _ (s .pre .0) _ _ _
+    (start-ready _ _ (s .pre .0) _ _ _ _ _ _ _ (s .pre .2) (c .before .before .before .before .before .before .before .before .before .before .before .before .before .before .before .before .before .before .before .before .before .before .before .before .before .before .before .before .before .before .before .before .before .before .fill .ensures) (c .before .before .before .before .before .before .before .before .before .before .before .before .before .before .before .before .before .before .before .before .before .before .before .before .before .before .before .before .before .before .fill2 .ensures) (c .before .before .before .before .before .before .before .before .before .before .before .before .before .before .before .before .before .before .before .before .before .before .before .before .before .before .fill3 .ensures) .begins) (c .before .before .before .before .before .before .before .before .before .before .before .before .before .before .before .before .before .before .before .passes .ensures)
+    (c .before .before .before .before .before .before .before .before .before .before .if1 .left) _ (s .pre .1) _ _ (c .before .before .before .before .before .before .before .write-moments .ensures) (c .before .before .write-starts .ensures)
+
+pub solve-spec : {M : Type 1} → statement M
+solve-spec =
+    tie.close
+    (tie.spec
+    mul-total
+    add-n
+    add-n-2
+    fill-requires
+    add-fill
+    mul-fill
+    fill-requires-2
+    fill-requires-3
+    passes-requires
+    write-cycle-requires
+    same-length
+    same-length-2
+    same-length-3
+    same-length-4
+    same-length-5
+    returns
+    write-moments-requires
+    write-starts-requires
+    same-length-6
+    same-length-7
+    same-length-8
+    same-length-9
+    same-length-10
+    same-length-11
+    returns-2)

@@ -1,0 +1,61 @@
+-- The least solution of the demands above the start values is the earliest run.
+use mathlib.Core.Path.{_≡_}
+use mathlib.Core.List.{List, _++_}
+use Prim.Native.Nat.{ℕ, suc, _+_, _*_, _-_, _≤_, _<_}
+use native.Mathlib.Omega.{arith}
+use lib.ListN.{length}
+use Rattle.table.specs.Step.{Step}
+use Rattle.runs.specs.Run.{Run}
+use Rattle.runs.specs.Demand.{Holds, Starts, stepsDemands, startDemands, demands, Allowed}
+use Rattle.runs.specs.DemandOrder.{demands-is}
+use Rattle.runs.specs.Tools.{every-append}
+use Rattle.runs.specs.Allowed.{cut}
+use Rattle.runs.specs.Satisfies.{Satisfies, start-satisfies}
+use Rattle.runs.specs.RowSteps.{rising}
+use Rattle.runs.specs.Rows.{rowAt, row-now}
+use Rattle.runs.specs.RunReplay.{twin-satisfies}
+use Rattle.plan.specs.Asked.{Asked, asked-places}
+
+-- the times x of moments 0 to K are not before 4001 ticks
+abbrev pub Above : ℕ → ℕ → (ℕ → ℕ) → Type 0
+Above P K x = (i : ℕ) → i ≤ K → 4001 * P ≤ x i
+
+-- x is the least solution of the demands of σ that is not below the start values: 4001 ticks for moments 0 to K, and 0 for
+-- the last resets before the start.
+pub record Least (P n : ℕ) (σ : List Step) (D : Starts) (x : ℕ → ℕ) : Type 0 where
+  pub solution : Satisfies P x (demands n σ D)
+  pub above : Above P (length σ) x
+  pub least : (y : ℕ → ℕ) → Satisfies P y (demands n σ D) → Above P (length σ) y
+      → (v : ℕ) → v < length σ + n + 1 → x v ≤ y v
+
+module _ (P n : ℕ) (σ : List Step) (D : Starts) where
+  -- ---- a solution: no moment is before the start, and no last reset before the start is after it
+  abbrev K : ℕ
+  K = length σ
+
+  split : (x : ℕ → ℕ) → Satisfies P x (demands n σ D)
+      → Satisfies P x (stepsDemands σ 0 (λ j. K + j)) × Satisfies P x (startDemands K D 1 n)
+  split x h =
+      every-append (Holds P x) (stepsDemands σ 0 (λ j. K + j)) (startDemands K D 1 n) .0 (rw demands-is at h)
+
+  pub solution-now : (x : ℕ → ℕ) → Satisfies P x (demands n σ D) → (i : ℕ) → i ≤ K → x 0 ≤ x i
+  solution-now x h i l =
+      let e : 0 + i ≡ i = omega arith in rw e at (rising P x σ 0 (λ j. K + j) (split x h .0) i l)
+
+  pub solution-past : (x : ℕ → ℕ) → Satisfies P x (demands n σ D) → (j : ℕ) → 0 < j → j ≤ n → x (K + j) ≤ x 0
+  solution-past x h j p l = start-satisfies P x K D 1 n .1 (split x h .1) j p (omega arith) .0
+
+  -- No run from an allowed start has an earlier moment than the least solution.
+  pub least-earliest : (x : ℕ → ℕ) → Least P n σ D x → 0 < P → Asked n σ D
+      → (u r : ℕ → ℕ) → Run P σ u r → Allowed P D n r → (i : ℕ) → i ≤ K → x i - x 0 ≤ u i
+  least-earliest x h p a u r w b i l =
+      omega (arith, h .above 0 (omega arith), now i l, h .least y twin (λ m q. omega (arith, now m q)) i (omega arith))
+    where
+      y : ℕ → ℕ
+      y = rowAt (4001 * P) K u (cut P r)
+
+      twin : Satisfies P y (demands n σ D)
+      twin = twin-satisfies P n σ D u r p (a .fair) (a .clocks) (asked-places n σ D a) (a .plain) w b
+
+      now : (m : ℕ) → m ≤ K → y m ≡ 4001 * P + u m
+      now m q = row-now (4001 * P) K u (cut P r) m q

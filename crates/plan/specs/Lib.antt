@@ -1,0 +1,24 @@
+-- what a plan is, and what it is asked of
+pub mod Planned
+pub mod Answer
+pub mod Asked
+-- demands as difference constraints in parts
+pub mod InParts
+-- the least solution above the start is the earliest run
+pub mod Earliest
+-- the smallest starts
+pub mod LeastStart
+pub mod Smallest
+pub mod Same
+-- a negative cycle is a loop
+pub mod Refuted
+-- what the passes find
+pub mod Rises
+pub mod Passes
+-- the code
+pub mod Sized
+pub mod Turns
+pub mod Ending
+pub mod Lift
+pub mod Solve
+pub mod Admit

@@ -1,0 +1,116 @@
+-- A negative cycle of the constraints in parts is a loop of the demands.
+use mathlib.Core.Path.{_≡_, refl, sym, ap, _∙_}
+use mathlib.Core.Logic.{_≢_}
+use mathlib.Core.List.{List, List·Memᴰ, Memᴰ·of-map}
+use Prim.Native.Nat.{ℕ, zero, suc, _+_, _≤_, _<_}
+use native.Mathlib.Omega.{arith}
+use native.Mathlib.Decide.{decLt}
+use lib.ListN.{length, getD}
+use Rattle.runs.specs.declared.Demand.{Demand}
+use Rattle.runs.specs.Loop.{Link, Loop}
+use Rattle.runs.specs.DemandRange.{Proper}
+use Rattle.runs.specs.Tools as tools
+use Rattle.runs.specs.Tools.{Every, sel, sel-yes, sel-no}
+use Rattle.runs.specs.Parts.{gain, loss}
+use Rattle.runs.specs.Cycle.{cycle-loop}
+use Rattle.paths.specs.Constraint.{Constraint, sum, NegativeCycle, cycle-some, cycle-two}
+use Rattle.paths.specs.Places.{at}
+use Rattle.plan.specs.InParts.{inParts, allInParts}
+
+-- equal numbers have equal sums
+sum-same : (f g : ℕ → ℕ) (n : ℕ) → ((k : ℕ) → k < n → f k ≡ g k) → tools.sum f n ≡ sum g n
+unfolding sum tools.sum
+sum-same f g zero h = refl
+sum-same f g (suc n) h = omega (arith, sum-same f g n (λ k l. h k (omega arith)), h n (omega arith))
+
+-- a negative cycle of some constraints is one of all
+pub cycle-among : (bs cs : List Constraint) (vs : List ℕ) → ((c : Constraint) → List·Memᴰ c bs → List·Memᴰ c cs)
+    → NegativeCycle bs vs → NegativeCycle cs vs
+cycle-among bs cs vs h c =
+    record {
+      by = c .by;
+      member = λ k l. h (c .by k) (c .member k l);
+      from = c .from;
+      to = c .to;
+      close = c .close;
+      distinct = c .distinct;
+      negative = c .negative;
+    }
+
+module _ (P M : ℕ) (ds : List Demand) (vs : List ℕ) (proper : Every (Proper M) ds)
+    (c : NegativeCycle (allInParts P ds) vs) where
+  -- a demand behind a constraint of the cycle
+  record Behind (k : ℕ) : Type 0 where
+    demand : Demand
+    among : List·Memᴰ demand ds
+    same : inParts P demand ≡ c .by k
+
+  behind : (k : ℕ) → k < length vs → Behind k
+  behind k l =
+      let d = Memᴰ·of-map (inParts P) ds (c .member k l) in record { demand = d .0; among = d .1; same = d .2 }
+
+  -- past the last vertex the first demand stands for all
+  chosen : (k : ℕ) → Dec (k < length vs) → Demand
+  chosen k (yes l) = behind k l .demand
+  chosen k (no l) = behind 0 (cycle-some (allInParts P ds) vs c) .demand
+
+  used : ℕ → Demand
+  used k = chosen k (decLt k (length vs))
+
+  used-behind : (k : ℕ) → k < length vs → List·Memᴰ (used k) ds × (inParts P (used k) ≡ c .by k)
+  unfolding used chosen
+  used-behind k l = go (decLt k (length vs))
+    where
+      go : (d : Dec (k < length vs)) → List·Memᴰ (chosen k d) ds × (inParts P (chosen k d) ≡ c .by k)
+      go (yes m) = (behind k m .among, behind k m .same)
+      go (no m) = absurd (m l)
+
+  -- the vertices, and after the last the first again
+  round : ℕ → ℕ
+  round k = sel (decLt k (length vs)) (at vs k) (at vs 0)
+
+  round-in : (k : ℕ) → k < length vs → round k ≡ at vs k
+  unfolding round
+  round-in k l = sel-yes (decLt k (length vs)) (at vs k) (at vs 0) l
+
+  round-out : (k : ℕ) → ¬ (k < length vs) → round k ≡ at vs 0
+  unfolding round
+  round-out k l = sel-no (decLt k (length vs)) (at vs k) (at vs 0) l
+
+  some : 0 < length vs
+  some = cycle-some (allInParts P ds) vs c
+
+  links : (k : ℕ) → k < length vs → Link ds (round k) (round (suc k)) (used k)
+  links k l =
+      record {
+        among = used-behind k l .0;
+        from = ap (λ b. b .from) (used-behind k l .1) ∙ c .from k l ∙ sym (round-in k l);
+        to = ap (λ b. b .to) (used-behind k l .1) ∙ next (decLt (suc k) (length vs));
+      }
+    where
+      next : Dec (suc k < length vs) → c .by k .to ≡ round (suc k)
+      next (yes m) = c .to k m ∙ sym (round-in (suc k) m)
+      next (no m) = c .close k (omega arith) ∙ sym (round-out (suc k) m)
+
+  apart : (e : Constraint) → List·Memᴰ e (allInParts P ds) → e .from ≢ e .to
+  apart e m q = go (Memᴰ·of-map (inParts P) ds m)
+    where
+      go : (d : Demand) × List·Memᴰ d ds × (inParts P d ≡ e) → ⊥
+      go d =
+          proper (d .0) (d .1) .apart
+          (ap (λ b. b .from) (d .2) ∙ q ∙ sym (ap (λ b. b .to) (d .2)))
+
+  -- A negative cycle of at most P vertices is a loop.
+  pub cycle-is-loop : length vs ≤ P → Loop ds vs
+  cycle-is-loop few =
+      cycle-loop P ds vs round used (cycle-two (allInParts P ds) vs c apart) few
+      (λ k l. sym (round-in k l))
+      (λ i j l m e. c .distinct i j l m (sym (round-in i (omega arith)) ∙ e ∙ round-in j m))
+      (round-out (length vs) (omega arith) ∙ sym (round-in 0 some))
+      links
+      (omega (
+        arith,
+        c .negative,
+        sum-same (λ k. loss P (used k)) (λ k. c .by k .loss) (length vs) (λ k l. ap (λ b. b .loss) (used-behind k l .1)),
+        sum-same (λ k. gain P (used k)) (λ k. c .by k .gain) (length vs) (λ k l. ap (λ b. b .gain) (used-behind k l .1)),
+      ))

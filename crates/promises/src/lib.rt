@@ -1,0 +1,1 @@
+// What the answers to "rounds" and "plan" say together: laws only, in specs/.

@@ -1,0 +1,36 @@
+-- The question put to bytes: they are refused, or accepted, and then the table by value is the table they write down.
+use mathlib.Core.Path.{_≡_, refl, sym, _∙_, ap, subst}
+use mathlib.Core.List.{List}
+use Prim.Native.Nat.{ℕ}
+use Rattle.table.specs.declared.Read.{Read}
+use Rattle.table.specs.declared.Read.the-variants as read
+use Rattle.table.specs.declared.Refusal.{Refusal}
+use Rattle.table.specs.declared.Table.{Table}
+use Rattle.table.specs.Step.{Step, stepsOf, Good}
+use Rattle.wire.specs.Reading.{readOf}
+use Rattle.wire.specs.Listing.{listing, cycle}
+use Rattle.wire.specs.Fill.{tableOf}
+use Rattle.format.specs.Found.{Bytes}
+use Rattle.format.specs.Represent.{Represents}
+use Rattle.format.specs.Meaning.{table-represents}
+use Rattle.rounds.specs.declared.Count.{Count}
+use Rattle.rounds.specs.declared.Count.the-variants.{Refused}
+use Rattle.rounds.specs.Answer.{Counts, Answers}
+
+counts-same : {m n : ℕ} {σ τ : List Step} (r : Count) → m ≡ n → σ ≡ τ → Counts m σ r → Counts n τ r
+counts-same r e f h = rw (e, f) at h
+
+module _ (bytes : List ℕ) (a : Read) (e : a ≡ readOf bytes) where
+  pub answers-refused : (f : Refusal) → a ≡ read.Refused f → Answers (readOf bytes) bytes (Refused f)
+  answers-refused f q = rw (sym e ∙ q) refl
+
+  module _ (t : Table) (s : t ≡ tableOf bytes) (small : Bytes bytes) (n L g : ℕ) (q : a ≡ read.Counted n L g) where
+    represents : Represents t (listing bytes)
+    represents = rw s (table-represents bytes small n L g (sym e ∙ q))
+
+    pub accepted-good : Good t
+    accepted-good = represents .good
+
+    pub answers-counted : (r : Count) → Counts (t .clocks) (stepsOf t) r → Answers (readOf bytes) bytes r
+    answers-counted r h =
+        rw (sym e ∙ q) (counts-same r (represents .clocks) (represents .same) h)

@@ -1,0 +1,98 @@
+-- From what the search finds to the answer.
+use mathlib.Core.Path.{_≡_, refl, sym, subst}
+use mathlib.Core.Bool.{Bool, true, false}
+use mathlib.Core.Logic.{_↔_}
+use mathlib.Core.List.{List, [], List·Memᴰ·not-nil}
+use Prim.Native.Nat.{ℕ, zero, suc, _+_, _*_, _^_, _≤_, _<_}
+use native.Mathlib.Omega.{arith}
+use lib.ListN.{length}
+use Rattle.table.specs.declared.Table.{Table}
+use Rattle.table.specs.Step.{Step, Fair, stepsOf, Good}
+use Rattle.runs.specs.Run.{copies}
+use Rattle.runs.specs.Demand.{Holds, anyStarts, Exists, Places}
+use Rattle.runs.specs.Tools.{every-nil}
+use Rattle.zones.specs.Matrix.{Matrix}
+use Rattle.zones.specs.Cells.{matrix}
+use Rattle.effects.specs.Describes.{Describes}
+use Rattle.effects.specs.Demands.{Inside, each, every-each, matrix-is}
+use Rattle.effects.specs.Begins.{Begins, no-run}
+use Rattle.effects.specs.Count.{limit, unending}
+use Rattle.effects.specs.Climb.{rounds-one, Known, known-none, known-count}
+use Rattle.effects.specs.Rounds.{startMatrix, permits, exists-begins, rounds-exist, any-exists}
+use Rattle.joins.specs.Tells.{Tells}
+use Rattle.joins.specs.Round.{steps-length}
+use Rattle.rounds.specs.declared.Count.{Count}
+use Rattle.rounds.specs.declared.Count.the-variants.{Finite, Endless}
+use Rattle.rounds.specs.Answer.{Allows, Counts}
+use Rattle.rounds.specs.Climbing.{Free, Tabled, Rounds, Climbs}
+
+-- The steps of an accepted table.
+pub good-tabled : (t : Table) → Good t → Tabled (stepsOf t)
+good-tabled t good = record {
+  fair = good .fair;
+  some = omega (arith, steps-length t, good .steps-some);
+  few = omega (arith, steps-length t, good .steps-few);
+}
+
+-- ---- Any start
+
+places-any : (n : ℕ) → Places n anyStarts
+unfolding anyStarts
+places-any n j p l d m = absurd (List·Memᴰ·not-nil m)
+
+-- The matrix of 01's starts.
+pub starts : ℕ → Matrix
+starts n = startMatrix n anyStarts
+
+pub starts-free : (n : ℕ) → Free (starts n)
+unfolding starts startMatrix anyStarts
+starts-free n P x p =
+    matrix-is 7 P x p (each n (λ j. [])) (every-each (λ d. (d .from < 7) × (d .to < 7)) (λ j. []) n .1 (λ j q l. every-nil _)) .1
+    (every-each (Holds P x) (λ j. []) n .1 (λ j q l. every-nil (Holds P x)))
+
+-- ---- The answers
+
+module _ (n : ℕ) (b : n < 7) (τ : List Step) (t : Tabled τ) where
+  exists-is : (k : ℕ) → Exists n anyStarts (copies τ k) ↔ Begins (starts n) (copies τ k)
+  unfolding starts
+  exists-is =
+      rounds-exist n anyStarts (startMatrix n anyStarts) b (places-any n) (permits n anyStarts b (places-any n)) τ (t .fair)
+      (t .some) (any-exists n)
+
+  begins-nil : Begins (starts n) []
+  unfolding starts
+  begins-nil =
+      exists-begins n anyStarts (startMatrix n anyStarts) b (places-any n) (permits n anyStarts b (places-any n)) []
+      (every-nil Fair) (any-exists n)
+
+  known-counts : (c : ℕ) → Known (starts n) τ 0 c → c < limit → Counts n τ (Finite c)
+  known-counts c k l = record {
+    runs = λ m.
+        let e = exists-is m in
+        let q = known-count (starts n) τ c k m in
+        ((λ r. q .0 (e .0 r)), λ h. e .1 (q .1 h));
+    small = λ d e. let q : d ≡ c = cc in omega arith;
+  }
+
+  -- One round has no run.
+  pub counts-none : (ok : Bool) (z : List ℕ) → Tells τ ok z → ok ≡ false → Counts n τ (Finite 0)
+  counts-none ok z h e = known-counts 0 (known-none (starts n) τ begins-nil (no-run (starts n) (h .stuck e))) (omega arith)
+
+  -- One round has an effect, from which the search starts.
+  pub counts-one : (ok : Bool) (z : List ℕ) → Tells τ ok z → ok ≡ true → Rounds τ 1 z
+  counts-one ok z h e = record { table = t; describes = rounds-one (h .runs e) }
+
+  module _ (endless : Bool) (c : ℕ) (z : List ℕ) (h : Climbs (starts n) τ 0 endless c z) where
+    -- The limit of rounds runs, so every number of rounds does,
+    pub counts-endless : endless ≡ true → Counts n τ Endless
+    counts-endless e = record {
+      runs = λ k. ((λ r. tt), λ u. exists-is k .1 (unending (starts n) τ (t .fair) (t .some) (h .on e) k));
+      small = λ c q. absurd (never c q);
+    }
+      where
+        never : (c : ℕ) → Endless ≡ Finite c → ⊥
+        never c q = let z : _≡_ {A = ℕ} 0 1 = cc in omega arith
+
+    -- or the count is found.
+    pub counts-finite : endless ≡ false → Counts n τ (Finite c)
+    counts-finite e = let k = h .counted e in known-counts c (k .known) (omega (arith, k .small))

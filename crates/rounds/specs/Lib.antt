@@ -1,0 +1,5 @@
+pub mod Answer
+pub mod Climbing
+pub mod Searching
+pub mod Counting
+pub mod Asking
