@@ -1,17 +1,16 @@
 -- The steps of an accepted table by value, as the program fetches their parts.
-use mathlib.Core.Path.{_≡_, refl, sym, ap, _∙_, subst}
+use mathlib.Core.Path.{_≡_, refl, sym, ap, _∙_}
 use mathlib.Core.Bool.{Bool, true, false, cond}
-use mathlib.Core.List.{List, [], _∷_, _++_, List·Memᴰ, List·Memᴰ·head, List·Memᴰ·tail}
+use mathlib.Core.List.{List, _∷_, List·Memᴰ, List·Memᴰ·head, List·Memᴰ·tail}
 use Prim.Native.Nat.{ℕ, zero, suc, _+_, _*_, _-_, _≤_, _<_}
 use native.Mathlib.Omega.{arith}
 use native.Mathlib.Numerals.{add-one}
-use lib.ListN.{length, take, drop, getD}
+use lib.ListN.{length, take, getD}
 use lib.Seq.{slice, slice-cons, slice-empty, getD-drop, getD-take}
 use Rattle.table.specs.declared.Guard.{Guard}
-use Rattle.table.specs.declared.Relation.{Relation}
 use Rattle.table.specs.declared.Relation.the-variants.{Under, AtMost, Exactly, AtLeast, Over}
 use Rattle.table.specs.declared.Table.{Table}
-use Rattle.table.specs.Step.{Step, resets, FairGuard, Fair, stepAt, stepsFrom, stepsOf, Good}
+use Rattle.table.specs.Step.{resets, FairGuard, Fair, stepAt, stepsFrom, stepsOf, Good}
 use Rattle.runs.specs.declared.Demand.{Demand}
 use Rattle.runs.specs.Demand.{plus, guardDemands, guardsDemands}
 use Rattle.zones.specs.Codes.{BIAS, ZERO, code}
@@ -30,6 +29,7 @@ unfolding putsOf putOf code
 clock-put true j from l p q r e hp hq hr = hr ∙ rw (hq, hp, e)
 clock-put false j from l p q r e hp hq hr = hr ∙ rw (hq, hp, e)
 
+-- Clock j is reset by step i where this flag is true.
 resets-at : (t : Table) (i j : ℕ) → j < 7 → resets (stepAt t i) j ≡ getD (t .resets) (7 * i + j) false
 unfolding stepAt
 resets-at t i j h =
@@ -44,7 +44,8 @@ unfolding each
 clocks-less t i zero l z p h e = absurd (omega arith)
 clocks-less t i (suc j) l z p h e =
     let k : suc j - 1 ≡ j = omega arith in
-    rw (k, e, ← resets-at t i (suc j) h) (sym (puts-append (clockDemands (stepAt t i) (suc j)) (each j (clockDemands (stepAt t i))) l))
+    rw (k, e, ← resets-at t i (suc j) h)
+    (sym (puts-append (clockDemands (stepAt t i) (suc j)) (each j (clockDemands (stepAt t i))) l))
 
 -- None is left.
 pub clocks-done : (f : ℕ → List Demand) (j : ℕ) (l p q : List ℕ) → ¬ (0 < j) → putsOf (each j f) l ≡ putsOf (each 6 f) q
@@ -88,7 +89,8 @@ pub guards-less : (k end : ℕ) (gs : List Guard) (d : Guard) (l z : List ℕ) �
     → putsOf (guardsDemands (slice (k + 1) end gs) 7 (λ j. j)) z ≡ putsOf (guardsDemands (slice k end gs) 7 (λ j. j)) l
 unfolding guardsDemands
 guards-less k end gs d l z h b e =
-    rw (add-one, slice-cons k end gs d h b, e) (sym (puts-append (guardDemands (getD gs k d .relation) (getD gs k d .constant) (getD gs k d .clock) 7) _ l))
+    rw (add-one, slice-cons k end gs d h b, e)
+    (sym (puts-append (guardDemands (getD gs k d .relation) (getD gs k d .constant) (getD gs k d .clock) 7) _ l))
 
 -- None is left.
 pub guards-done : (k end : ℕ) (gs : List Guard) (l : List ℕ) → ¬ (k < end) → k ≤ end
@@ -98,6 +100,7 @@ guards-done k end gs l n h =
 
 -- ---- Fair
 
+-- Step a + i is one of n steps from step a on.
 steps-member : (t : Table) (n a i : ℕ) → i < n → List·Memᴰ (stepAt t (a + i)) (stepsFrom t a n)
 unfolding stepsFrom
 steps-member t zero a i h = absurd (omega arith)
@@ -106,7 +109,9 @@ steps-member t (suc n) a (suc i) h =
     let e : suc a + i ≡ a + suc i = omega arith in
     List·Memᴰ·tail (rw e at (steps-member t n (suc a) i (omega arith)))
 
-slice-member : {A : Type 0} (d : A) (a b : ℕ) (l : List A) (n : ℕ) → n + a < b → b ≤ length l → List·Memᴰ (getD l (n + a) d) (slice a b l)
+-- What is at an index of a slice is in it.
+slice-member : {A : Type 0} (d : A) (a b : ℕ) (l : List A) (n : ℕ) → n + a < b → b ≤ length l
+    → List·Memᴰ (getD l (n + a) d) (slice a b l)
 slice-member d a b l zero h k =
     let e : 0 + a ≡ a = omega arith in
     rw (slice-cons a b l d (omega arith) k, e) (List·Memᴰ·head refl)
@@ -123,7 +128,8 @@ module _ (t : Table) (good : Good t) (i : ℕ) (l : i < t .steps) where
       good .fair (stepAt t i) (rw e at (steps-member t (t .steps) 0 i l))
 
   -- and so are its guards.
-  pub guard-fair : (k : ℕ) (d : Guard) → getD (t .ends) i 0 ≤ k → k < getD (t .ends) (i + 1) 0 → FairGuard (getD (t .guards) k d)
+  pub guard-fair : (k : ℕ) (d : Guard) → getD (t .ends) i 0 ≤ k → k < getD (t .ends) (i + 1) 0
+      → FairGuard (getD (t .guards) k d)
   unfolding stepAt
   guard-fair k d a b =
       let e : k - getD (t .ends) i 0 + getD (t .ends) i 0 ≡ k = omega arith in

@@ -1,20 +1,18 @@
 -- Two effects as one matrix of twenty-one vertices, and its outer fourteen, on the cells.
 use mathlib.Core.Path.{_≡_, refl, ap, sym, _∙_}
-use mathlib.Core.Logic.{_↔_}
 use mathlib.Core.List.{List}
 use Prim.Native.Nat.{ℕ, _+_, _*_, _-_, _/_, _%_, _≤_, _<_, min}
 use native.Mathlib.Omega.{arith}
 use native.Mathlib.Decide.{decLe, decLt}
 use lib.ListN.{getD}
 use Rattle.zones.specs.Choice.{choose, choose-yes, choose-cases, both, min-cases}
-use Rattle.zones.specs.Bound.{_⊑_, weak-zero, Sat, ⊑-refl, ⊑-trans}
+use Rattle.zones.specs.Bound.{_⊑_, weak-zero, Sat, ⊑-trans}
 use Rattle.zones.specs.Values.{sat-mono}
 use Rattle.zones.specs.Matrix.{Solves, Flat}
 use Rattle.zones.specs.Linear.{AllWithin}
 use Rattle.zones.specs.Codes.{BIAS, NONE, bound, bound-none, bound-mono, Coded, coded-top, within-coded}
 use Rattle.zones.specs.Tab.{tab, length-tab, getD-tab}
 use Rattle.zones.specs.Cells.{cell, matrix, Ranged}
-use Rattle.zones.specs.Building.{cell-coded}
 use Rattle.effects.specs.Describes.{past}
 use Rattle.effects.specs.Outer.{outer, restrict, outer-low}
 use Rattle.effects.specs.Join.{Glued}
@@ -32,6 +30,7 @@ backOf k e = choose (both (decLe 7 (k / 21)) (decLe 7 (k % 21))) e NONE
 abbrev pub gluedOf : List ℕ → List ℕ → ℕ → ℕ
 gluedOf A B k = min (frontOf k (getD A k 0)) (backOf k (getD B ((k + 287) % 441) 0))
 
+-- All of them.
 unfoldable pub glueOf : List ℕ → List ℕ → List ℕ
 glueOf A B = tab 441 (gluedOf A B)
 
@@ -46,13 +45,11 @@ placeOf k = (outerVertex (k / 21) * 21 + outerVertex (k % 21)) % 441
 abbrev pub outerCell : List ℕ → ℕ → ℕ
 outerCell l k = frontOf k (getD l (placeOf k) 0)
 
+-- The outer cells.
 unfoldable pub outerOf : List ℕ → List ℕ
 outerOf l = tab 441 (outerCell l)
 
 -- ---- The cells
-
-column : (a b : ℕ) → b < 21 → ((a * 21 + b) / 21 ≡ a) × ((a * 21 + b) % 21 ≡ b)
-column a b h = (omega arith, omega arith)
 
 -- What holds of none, of the cells of A and of those of B, each at its place, holds of the cell at k.
 glue-cases : (Q : ℕ → Type 0) (A B : List ℕ) (k : ℕ) → k < 441 → Q NONE
@@ -81,7 +78,8 @@ glue-back A B a b ha hb =
     let k : ℕ = (7 + a) * 21 + (7 + b) in
     let p : (k + 287) % 441 ≡ a * 21 + b = omega arith in
     let e : backOf k (getD B ((k + 287) % 441) 0) ≡ getD B ((k + 287) % 441) 0 =
-    choose-yes (both (decLe 7 (k / 21)) (decLe 7 (k % 21))) (getD B ((k + 287) % 441) 0) NONE (omega arith, omega arith) in
+    choose-yes (both (decLe 7 (k / 21)) (decLe 7 (k % 21))) (getD B ((k + 287) % 441) 0) NONE
+    (omega arith, omega arith) in
     rw (getD-tab 441 (gluedOf A B) ((7 + a) * 21 + (7 + b)) (omega arith)) (omega (arith, e, ap (λ n. getD B n 0) p))
 
 -- Glued cells stay in the range of both parts,
@@ -94,7 +92,8 @@ glue-ranged D A B wA wB = record { full = unfold glueOf in length-tab 441 (glued
         (λ p q. let e : k / 21 * 21 + k % 21 ≡ k = omega arith in
         rw e at (within-coded D (cell A (k / 21) (k % 21)) (wA (k / 21) (k % 21) p q)))
         (λ p q. let e : (k / 21 - 7) * 21 + (k % 21 - 7) ≡ k - 154 = omega arith in
-        rw e at (within-coded D (cell B (k / 21 - 7) (k % 21 - 7)) (wB (k / 21 - 7) (k % 21 - 7) (omega arith) (omega arith))))
+        rw e at (within-coded D (cell B (k / 21 - 7) (k % 21 - 7))
+        (wB (k / 21 - 7) (k % 21 - 7) (omega arith) (omega arith))))
 
 -- and have the solutions of A on the first fourteen vertices and of B on the last fourteen.
 pub glue-glued : (D : ℕ) (A B : List ℕ) → D ≤ BIAS → AllWithin 14 D (matrix A) → AllWithin 14 D (matrix B)
@@ -123,7 +122,8 @@ glue-glued D A B small wA wB fA fB = record { level = level; is = λ P x p. (out
         → Solves 14 P (matrix A) x × Solves 14 P (matrix B) (past x)
     out P x p s = (
       (λ a b ha hb. sat-mono P (x a) (x b) p (front a b ha hb) (s a b (omega arith) (omega arith))),
-      λ a b ha hb. sat-mono P (x (7 + a)) (x (7 + b)) p (back a b ha hb) (s (7 + a) (7 + b) (omega arith) (omega arith)),
+      λ a b ha hb. sat-mono P (x (7 + a)) (x (7 + b)) p (back a b ha hb)
+          (s (7 + a) (7 + b) (omega arith) (omega arith)),
     )
 
     into : (P : ℕ) (x : ℕ → ℕ) → 0 < P → Solves 14 P (matrix A) x × Solves 14 P (matrix B) (past x)
@@ -142,6 +142,7 @@ glue-glued D A B small wA wB fA fB = record { level = level; is = λ P x p. (out
 
 -- ---- The outer fourteen vertices
 
+-- The cells kept are the outer part of the matrix.
 pub outer-same : (l : List ℕ) (a b : ℕ) → a < 14 → b < 14 → restrict (matrix l) a b ≡ matrix (outerOf l) a b
 unfolding restrict outerOf outer
 outer-same l a b ha hb = ap bound (sym (getD-tab 441 (outerCell l) (a * 21 + b) (omega arith) ∙ same))
@@ -156,5 +157,7 @@ outer-same l a b ha hb = ap bound (sym (getD-tab 441 (outerCell l) (a * 21 + b) 
     same =
         let d : (a * 21 + b) / 21 ≡ a = omega arith in
         let m : (a * 21 + b) % 21 ≡ b = omega arith in
-        let k : (outerVertex a * 21 + outerVertex b) % 441 ≡ outerVertex a * 21 + outerVertex b = omega (arith, low-a, low-b) in
-        rw (d, m, k) (choose-yes (both (decLt a 14) (decLt b 14)) (cell l (outerVertex a) (outerVertex b)) NONE (ha, hb))
+        let k : (outerVertex a * 21 + outerVertex b) % 441
+        ≡ outerVertex a * 21 + outerVertex b = omega (arith, low-a, low-b) in
+        rw (d, m, k) (choose-yes (both (decLt a 14) (decLt b 14)) (cell l (outerVertex a) (outerVertex b)) NONE
+        (ha, hb))

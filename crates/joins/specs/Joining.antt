@@ -7,7 +7,6 @@ use native.Mathlib.Omega.{arith}
 use lib.ListN.{length, length-append}
 use Rattle.table.specs.Step.{Step}
 use Rattle.runs.specs.Steps.{fairs-append}
-use Rattle.zones.specs.Matrix.{Matrix}
 use Rattle.zones.specs.Linear.{AllWithin}
 use Rattle.zones.specs.Cells.{matrix, Closing, answer, closeOf}
 use Rattle.zones.specs.Closing.{close-true, close-false}
@@ -24,11 +23,13 @@ outward (answer ok l) = answer ok (outerOf l)
 unfoldable pub joinOf : List ℕ → List ℕ → Closing
 joinOf A B = outward (closeOf 21 (glueOf A B))
 
+-- The program's join, step by step.
 pub join-is : (A B g l z : List ℕ) (ok : Bool) → g ≡ glueOf A B → closeOf 21 g ≡ answer ok l → z ≡ outerOf l
     → joinOf A B ≡ answer ok z
 unfolding joinOf
 join-is A B g l z ok hg e hz = ap outward (ap (closeOf 21) (sym hg) ∙ e) ∙ ap (answer ok) (sym hz)
 
+-- What an answer tells of a list of steps.
 abbrev Told : List Step → Closing → Type 0
 Told σ (answer ok l) = Tells σ ok l
 
@@ -59,9 +60,12 @@ module _ {σ τ : List Step} (s : Sized σ) (t : Sized τ) where
       go : (c : Closing) → closeOf 21 (glueOf A B) ≡ c → Told (σ ++ τ) (outward c)
       go (answer ok l) q = record {
         runs = λ h.
-            describes-same (outer-same l) (joined σ τ (matrix A) (matrix B) (s .fair) (t .fair) dA dB (matrix (glueOf A B)) glued (matrix l)
-            (close-true (2 ^ 52) (glueOf A B) (omega arith) (glue-ranged (2 ^ 52) A B wA wB) 21 ok l (omega arith) q h));
+            describes-same (outer-same l)
+            (joined σ τ (matrix A) (matrix B) (s .fair) (t .fair) dA dB (matrix (glueOf A B)) glued (matrix l)
+            (close-true (2 ^ 52) (glueOf A B) (omega arith) (glue-ranged (2 ^ 52) A B wA wB) 21 ok l
+            (omega arith) q h));
         stuck = λ h.
             join-fails σ τ (matrix A) (matrix B) (s .fair) (t .fair) dA dB (matrix (glueOf A B)) glued
-            (close-false (2 ^ 52) (glueOf A B) (omega arith) (glue-ranged (2 ^ 52) A B wA wB) 21 ok l (omega arith) q h);
+            (close-false (2 ^ 52) (glueOf A B) (omega arith) (glue-ranged (2 ^ 52) A B wA wB) 21 ok l
+            (omega arith) q h);
       }

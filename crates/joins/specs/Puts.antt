@@ -3,7 +3,7 @@ use mathlib.Core.Path.{_≡_, refl}
 use mathlib.Core.Logic.{_↔_}
 use mathlib.Core.Bool.{Bool, true, false}
 use mathlib.Core.List.{List, [], _∷_, _++_}
-use Prim.Native.Nat.{ℕ, _+_, _*_, _^_, _≤_, _<_}
+use Prim.Native.Nat.{ℕ, _≤_, _<_}
 use native.Mathlib.Omega.{arith}
 use Rattle.runs.specs.declared.Demand.{Demand}
 use Rattle.runs.specs.Demand.{Holds}
@@ -64,7 +64,8 @@ module _ (d : Demand) (s : Short d) (l : List ℕ) (r : Ranged 4000 l) where
       tighten-flat 4000 l (omega arith) r (d .from) (d .to) (code (boundOf d))
       (omega (arith, s .from)) (omega (arith, s .to)) coded 14 (omega arith)
 
-  put-solves : (P : ℕ) (x : ℕ → ℕ) → 0 < P → Solves 14 P (matrix (putOf d l)) x ↔ (Solves 14 P (matrix l) x × Holds P x d)
+  put-solves : (P : ℕ) (x : ℕ → ℕ) → 0 < P
+      → Solves 14 P (matrix (putOf d l)) x ↔ (Solves 14 P (matrix l) x × Holds P x d)
   unfolding putOf
   put-solves P x p = (
     (λ h. let k = same .0 h in (k .0, holds-sat P x d .1 (sat-mono P u v p under (k .1)))),

@@ -1,7 +1,7 @@
 -- The effect of one step as the program makes it: its difference constraints put into the cells, and the cells closed.
 use mathlib.Core.Path.{_≡_, sym, _∙_}
 use mathlib.Core.Bool.{Bool, true, false}
-use mathlib.Core.List.{List, [], _∷_, _++_}
+use mathlib.Core.List.{List, [], _∷_}
 use Prim.Native.Nat.{ℕ, _^_, _≤_, _<_}
 use native.Mathlib.Omega.{arith}
 use Rattle.table.specs.declared.Guard.{Guard}
@@ -20,20 +20,21 @@ use Rattle.effects.specs.StepDemands.{resetDemands, clockDemands, stepDemands, 
 use Rattle.joins.specs.Puts.{putOf, putsOf, puts-append, Short, puts-ranged, puts-flat, puts-solves}
 use Rattle.joins.specs.Tells.{Tells}
 
--- The constraints of a step.
+-- The difference constraints of a step, put into the cells of the matrix with no bounds,
 unfoldable pub rawOf : Step → List ℕ
 rawOf s = putsOf (stepDemands s) unboundedOf
 
--- Closed.
+-- and closed.
 unfoldable pub effectOf : Step → Closing
 effectOf s = closeOf 14 (rawOf s)
 
--- Put in as the program does.
+-- The program puts in first time and the clocks, then the guards.
 pub raw-put : (s : Step) (l z : List ℕ) → l ≡ putsOf (each 6 (clockDemands s)) (putOf (plus 7 0 0 false) unboundedOf)
     → z ≡ putsOf (guardsDemands (s .guards) 7 (λ j. j)) l → z ≡ rawOf s
 unfolding rawOf stepDemands putsOf
 raw-put s l z e f =
-    f ∙ rw e (sym (puts-append (each 6 (clockDemands s)) (guardsDemands (s .guards) 7 (λ j. j)) (putOf (plus 7 0 0 false) unboundedOf)))
+    f ∙ rw e (sym (puts-append (each 6 (clockDemands s)) (guardsDemands (s .guards) 7 (λ j. j))
+    (putOf (plus 7 0 0 false) unboundedOf)))
 
 -- ---- They are short
 
@@ -88,7 +89,8 @@ module _ (s : Step) (f : Fair s) where
   raw-is : Raw s (matrix (rawOf s))
   unfolding rawOf
   raw-is = record {
-    level = puts-flat (stepDemands s) (step-short s f) unboundedOf (unbounded-ranged 4000) (unbounded-flat 14 (omega arith));
+    level = puts-flat (stepDemands s) (step-short s f) unboundedOf (unbounded-ranged 4000)
+        (unbounded-flat 14 (omega arith));
     is = λ P x p.
         let h = puts-solves (stepDemands s) (step-short s f) unboundedOf (unbounded-ranged 4000) P x p in
         let t = step-is P x s in
@@ -99,6 +101,8 @@ module _ (s : Step) (f : Fair s) where
   pub effect-tells : (ok : Bool) (z : List ℕ) → effectOf s ≡ answer ok z → Tells (s ∷ []) ok z
   unfolding effectOf
   effect-tells ok z e = record {
-    runs = λ q. single s (matrix (rawOf s)) f raw-is (matrix z) (close-true 4000 (rawOf s) (omega arith) raw-ranged 14 ok z (omega arith) e q);
-    stuck = λ q. single-fails s (matrix (rawOf s)) f raw-is (close-false 4000 (rawOf s) (omega arith) raw-ranged 14 ok z (omega arith) e q);
+    runs = λ q. single s (matrix (rawOf s)) f raw-is (matrix z)
+        (close-true 4000 (rawOf s) (omega arith) raw-ranged 14 ok z (omega arith) e q);
+    stuck = λ q. single-fails s (matrix (rawOf s)) f raw-is
+        (close-false 4000 (rawOf s) (omega arith) raw-ranged 14 ok z (omega arith) e q);
   }

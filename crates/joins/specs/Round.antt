@@ -1,5 +1,5 @@
 -- The steps of an accepted table one after the other, and what is told of them.
-use mathlib.Core.Path.{_≡_, refl, ap, sym, _∙_, subst}
+use mathlib.Core.Path.{_≡_, refl, ap}
 use mathlib.Core.Bool.{Bool, true, false}
 use mathlib.Core.List.{List, [], _∷_, _++_}
 use Prim.Native.Nat.{ℕ, zero, suc, _+_, _^_, _≤_, _<_}
@@ -78,7 +78,8 @@ module _ (t : Table) (good : Good t) where
   first-tells = effect-tells (stepAt t 0) (step-fair t good 0 (omega (arith, good .steps-some)))
 
   module _ (i : ℕ) (some : 0 < i) (b : i < t .steps) where
-    told : (ok : Bool) (z : List ℕ) → Tells (stepsFrom t 0 i ++ (stepAt t i ∷ [])) ok z → Tells (stepsFrom t 0 (i + 1)) ok z
+    told : (ok : Bool) (z : List ℕ) → Tells (stepsFrom t 0 i ++ (stepAt t i ∷ [])) ok z
+        → Tells (stepsFrom t 0 (i + 1)) ok z
     told ok z h = rw steps-more h
 
     next : (ok : Bool) (z : List ℕ) → effectOf (stepAt t i) ≡ answer ok z → Tells (stepAt t i ∷ []) ok z

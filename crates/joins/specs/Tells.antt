@@ -17,6 +17,7 @@ pub record Tells (σ : List Step) (ok : Bool) (cells : List ℕ) : Type 0 where
   pub runs : ok ≡ true → Describes σ (matrix cells)
   pub stuck : ok ≡ false → NoRun σ
 
+-- It may tell so of any cells.
 pub tells-stuck : {σ : List Step} (ok : Bool) (cells : List ℕ) → ok ≡ false → NoRun σ → Tells σ ok cells
 tells-stuck ok cells e n = record { runs = λ h. absurd (clash h); stuck = λ h. n }
   where
@@ -33,4 +34,5 @@ pub record Sized (σ : List Step) : Type 0 where
 pub effect-within : {σ : List Step} → Sized σ → (cells : List ℕ) → Describes σ (matrix cells)
     → AllWithin 14 (2 ^ 52) (matrix cells)
 effect-within {σ} s cells d a b ha hb =
-    within-wider (4001 * suc (length σ)) (2 ^ 52) _ (omega (arith, s .few)) (range σ (s .fair) (s .some) (matrix cells) d a b ha hb)
+    within-wider (4001 * suc (length σ)) (2 ^ 52) _ (omega (arith, s .few))
+    (range σ (s .fair) (s .some) (matrix cells) d a b ha hb)

@@ -14,7 +14,7 @@ use zones::unbounded;
 ghost use mathlib.Core.Path.{_≡_};
 ghost use mathlib.Core.List.{_∷_};
 ghost use mathlib.Core.Bool.{false, cond};
-ghost use Prim.Native.Nat.{_+_, _<_, _≤_, _^_};
+ghost use Prim.Native.Nat.{_+_, _<_, _^_};
 ghost use Rattle.table.specs.Step.{FairGuard, stepAt, stepsFrom, stepsOf, Good};
 ghost use Rattle.runs.specs.Demand.{plus, guardDemands, guardsDemands};
 ghost use Rattle.zones.specs.Linear.{AllWithin};

@@ -1,8 +1,8 @@
 -- Pass after pass, until one raises nothing or there is a cycle of parents.
-use mathlib.Core.Path.{_≡_, refl, sym, ap, subst, _∙_}
+use mathlib.Core.Path.{_≡_, sym, ap, subst, _∙_}
 use mathlib.Core.Bool.{Bool, true, false}
 use mathlib.Core.List.{List, List·Memᴰ, Memᴰ·of-map}
-use Prim.Native.Nat.{ℕ, suc, _+_, _*_, _≤_, _<_, _^_}
+use Prim.Native.Nat.{ℕ, _+_, _*_, _≤_, _<_, _^_}
 use native.Mathlib.Omega.{arith}
 use native.Mathlib.Nat.{mul-le-mul-right, mul-le-mul-left}
 use native.Mathlib.Decide.{decLe}
@@ -11,15 +11,15 @@ use Rattle.table.specs.declared.Table.{Table}
 use Rattle.runs.specs.declared.Demand.{Demand}
 use Rattle.constraints.specs.Rest.{demandsOf}
 use Rattle.constraints.specs.Count.{demands-bounded}
-use Rattle.paths.specs.Places.{at, filled, length-written}
+use Rattle.paths.specs.Places.{at, length-written}
 use Rattle.paths.specs.Constraint.{Constraint}
 use Rattle.paths.specs.State.{State, passOf, hitsOf, passesOf, passes-none, passes-more}
-use Rattle.paths.specs.Bounds.{SameSize, Room, room-kept, passes-size, Under, Gains, passes-under}
+use Rattle.paths.specs.Bounds.{SameSize, room-kept, passes-size, Under, Gains, passes-under}
 use Rattle.paths.specs.Pass.{Start}
 use Rattle.paths.specs.Cycle.{OnCycle}
 use Rattle.paths.specs.Outcome.{outcome-links, outcome-settled, outcome-must}
 use Rattle.paths.specs.Search.{Searchable, Search, found-some}
-use Rattle.plan.specs.InParts.{inParts, allInParts}
+use Rattle.plan.specs.InParts.{inParts}
 use Rattle.plan.specs.Passes.{Begins, Ended}
 use Rattle.plan.specs.Sized.{Sized, partsOf, constraintsOf, unit, sized-parts, sized-fits, sized-gain}
 use Rattle.plan.specs.Turns.{Passable, Swept, length-parts}

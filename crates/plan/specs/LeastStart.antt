@@ -2,8 +2,8 @@
 use mathlib.Core.Path.{_≡_, refl, sym, ap, _∙_}
 use mathlib.Core.Logic.{_⊎_, inl, inr, _≢_}
 use mathlib.Core.Bool.{Bool, true, false, cond}
-use mathlib.Core.List.{List, [], _∷_, _++_, List·Memᴰ, List·Memᴰ·head, List·Memᴰ·tail, List·Memᴰ·cases-cons}
-use Prim.Native.Nat.{ℕ, suc, _+_, _-_, _≤_, _<_, max}
+use mathlib.Core.List.{List, [], _∷_, List·Memᴰ, List·Memᴰ·head, List·Memᴰ·tail}
+use Prim.Native.Nat.{ℕ, _+_, _-_, _≤_, max}
 use native.Mathlib.Omega.{arith}
 use lib.Dec.{eqb}
 use borrow.Author.Tests.{eqb-true, eqb-false}
@@ -28,8 +28,11 @@ abbrev pub leastStart : (ℕ → ℕ) → List Constraint → ℕ → ℕ
 leastStart x cs v = startFrom x v cs 0
 
 module _ (x : ℕ → ℕ) (v : ℕ) where
-  raised-cases : (c : Constraint) (r : ℕ)
-      → ((c .to ≡ v) × (raised x v c r ≡ max r (lag x c))) ⊎ ((c .to ≢ v) × (raised x v c r ≡ r))
+  -- c is a constraint to v, or not
+  abbrev Cases : Constraint → ℕ → Type 0
+  Cases c r = ((c .to ≡ v) × (raised x v c r ≡ max r (lag x c))) ⊎ ((c .to ≢ v) × (raised x v c r ≡ r))
+
+  raised-cases : (c : Constraint) (r : ℕ) → Cases c r
   raised-cases c r = go (eqb (c .to) v) refl
     where
       go : (b : Bool) → eqb (c .to) v ≡ b
@@ -41,7 +44,7 @@ module _ (x : ℕ → ℕ) (v : ℕ) where
   raised-more : (c : Constraint) (r : ℕ) → r ≤ raised x v c r
   raised-more c r = go (raised-cases c r)
     where
-      go : ((c .to ≡ v) × (raised x v c r ≡ max r (lag x c))) ⊎ ((c .to ≢ v) × (raised x v c r ≡ r)) → r ≤ raised x v c r
+      go : Cases c r → r ≤ raised x v c r
       go (inl e) = omega (arith, e .1)
       go (inr e) = omega (arith, e .1)
 
@@ -56,8 +59,7 @@ module _ (x : ℕ → ℕ) (v : ℕ) where
   unfolding startFrom
   start-enough (d ∷ cs) r c (List·Memᴰ·head p) e = go (raised-cases d r)
     where
-      go : ((d .to ≡ v) × (raised x v d r ≡ max r (lag x d))) ⊎ ((d .to ≢ v) × (raised x v d r ≡ r))
-          → lag x c ≤ startFrom x v cs (raised x v d r)
+      go : Cases d r → lag x c ≤ startFrom x v cs (raised x v d r)
       go (inl q) = rw p (omega (arith, q .1, start-more cs (raised x v d r)))
       go (inr q) = absurd (q .0 (sym (ap (λ b. b .to) p) ∙ e))
   start-enough (d ∷ cs) r c (List·Memᴰ·tail m) e = start-enough cs (raised x v d r) c m e
@@ -70,17 +72,6 @@ module _ (x : ℕ → ℕ) (v : ℕ) where
   start-least (c ∷ cs) r b l h =
       start-least cs (raised x v c r) b (go (raised-cases c r)) (λ d m. h d (List·Memᴰ·tail m))
     where
-      go : ((c .to ≡ v) × (raised x v c r ≡ max r (lag x c))) ⊎ ((c .to ≢ v) × (raised x v c r ≡ r)) → raised x v c r ≤ b
+      go : Cases c r → raised x v c r ≤ b
       go (inl e) = omega (arith, e .1, h c (List·Memᴰ·head refl) (e .0))
       go (inr e) = omega (arith, e .1)
-
-  -- ---- constraint by constraint
-  pub start-none : (r : ℕ) → startFrom x v [] r ≡ r
-  unfolding startFrom
-  start-none r = refl
-
-  pub start-snoc : (xs : List Constraint) (c : Constraint) (r : ℕ)
-      → startFrom x v (xs ++ (c ∷ [])) r ≡ raised x v c (startFrom x v xs r)
-  unfolding startFrom
-  start-snoc [] c r = refl
-  start-snoc (d ∷ xs) c r = start-snoc xs c (raised x v d r)

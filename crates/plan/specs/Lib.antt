@@ -12,6 +12,7 @@ pub mod Smallest
 pub mod Same
 -- a negative cycle is a loop
 pub mod Refuted
+pub mod Decides
 -- what the passes find
 pub mod Rises
 pub mod Passes

@@ -1,8 +1,8 @@
 -- The smallest starts in a room, demand by demand.
 use mathlib.Core.Path.{_≡_, refl, sym, ap, _∙_}
 use mathlib.Core.Bool.{cond}
-use mathlib.Core.List.{List, [], _∷_, _++_, List·Memᴰ}
-use Prim.Native.Nat.{ℕ, suc, _+_, _*_, _-_, _≤_, _<_, _^_, max}
+use mathlib.Core.List.{List, [], _++_, List·Memᴰ}
+use Prim.Native.Nat.{ℕ, _+_, _*_, _-_, _≤_, _<_, _^_, max}
 use native.Mathlib.Omega.{arith}
 use native.Mathlib.Decide.{decLt, ℕ-discrete}
 use lib.Dec.{ltb, eqb}
@@ -21,7 +21,7 @@ use Rattle.paths.specs.Places.{at, tab, written, length-written, at-written, at
 use Rattle.paths.specs.Constraint.{Constraint}
 use Rattle.paths.specs.Bounds.{Under}
 use Rattle.plan.specs.InParts.{inParts, allInParts}
-use Rattle.plan.specs.LeastStart.{lag, raised, startFrom, leastStart, start-none}
+use Rattle.plan.specs.LeastStart.{lag, raised, startFrom, leastStart}
 use Rattle.plan.specs.Sized.{Sized, partsOf, constraintsOf, unit, sized-proper, sized-gain, sized-loss}
 
 -- the place of a clock in the room of starts, when its last reset before the start is v

@@ -1,10 +1,8 @@
 -- What passes over the demands find: the least solution above the start values, or a loop.
-use mathlib.Core.Path.{_≡_, refl, ap, subst, sym}
-use mathlib.Core.Bool.{false}
+use mathlib.Core.Path.{_≡_, ap}
 use mathlib.Core.List.{List, List·Memᴰ, Memᴰ·map, Memᴰ·of-map}
-use Prim.Native.Nat.{ℕ, suc, _+_, _*_, _≤_, _<_}
+use Prim.Native.Nat.{ℕ, _+_, _*_, _≤_, _<_}
 use native.Mathlib.Omega.{arith}
-use native.Mathlib.Nat.{mul-le-mul-right}
 use native.Mathlib.Decide.{decLe}
 use lib.ListN.{length, take, length-take}
 use Rattle.table.specs.Step.{Step}
@@ -12,7 +10,7 @@ use Rattle.runs.specs.declared.Demand.{Demand}
 use Rattle.runs.specs.Demand.{Starts, demands}
 use Rattle.runs.specs.DemandRange.{Proper}
 use Rattle.runs.specs.Loop.{Loop}
-use Rattle.runs.specs.Parts.{bit, gain, loss}
+use Rattle.runs.specs.Parts.{gain, loss}
 use Rattle.runs.specs.Tools.{Every, every-map}
 use Rattle.runs.specs.Satisfies.{Satisfies}
 use Rattle.paths.specs.Places.{at}
@@ -22,7 +20,7 @@ use Rattle.paths.specs.State.{State, passesOf}
 use Rattle.paths.specs.Bounds.{Room}
 use Rattle.paths.specs.Pass.{Start}
 use Rattle.paths.specs.Cycle.{OnCycle}
-use Rattle.paths.specs.Code.{Wrote, wrote-first}
+use Rattle.paths.specs.Code.{Wrote}
 use Rattle.paths.specs.Outcome.{outcome-least, outcome-wrote}
 use Rattle.plan.specs.Asked.{Asked, asked-proper}
 use Rattle.plan.specs.InParts.{inParts, allInParts, satisfies-parts, Serves}
@@ -47,9 +45,13 @@ pub record Ended (N : ℕ) (cs : List Constraint) (s s′ : State) (r : ℕ) : T
   pub solved : N ≤ r → All cs (at (s′ .time))
 
 -- ---- in parts
--- The vertices of proper demands are below M + 1, and a gain or loss is at most 4001 ticks.
+-- The vertices of proper demands are below M + 1.
 pub parts-fit : (P M : ℕ) (ds : List Demand) → Every (Proper M) ds → Fits (M + 1) (allInParts P ds)
-parts-fit P M ds h = record { from = λ c m. from c (Memᴰ·of-map (inParts P) ds m); to = λ c m. to c (Memᴰ·of-map (inParts P) ds m) }
+parts-fit P M ds h =
+    record {
+      from = λ c m. from c (Memᴰ·of-map (inParts P) ds m);
+      to = λ c m. to c (Memᴰ·of-map (inParts P) ds m);
+    }
   where
     from : (c : Constraint) → (d : Demand) × List·Memᴰ d ds × (inParts P d ≡ c) → c .from < M + 1
     from c d = omega (arith, ap (λ b. b .from) (d .2), h (d .0) (d .1) .from)
@@ -105,7 +107,8 @@ module _ (P n : ℕ) (σ : List Step) (D : Starts) (a : Asked n σ D) (es : List
         → Loop (demands n σ D) (take m out′)
     ended-loop few l out out′ m w =
         cycle-is-loop P (K + n) (demands n σ D) (take m out′) (asked-proper n σ D a)
-        (cycle-among cs (allInParts P (demands n σ D)) (take m out′) more (outcome-wrote N cs s begins-start (e .passes) r m out out′ (on (e .cycle l)) (wrote w)))
+        (cycle-among cs (allInParts P (demands n σ D)) (take m out′) more
+        (outcome-wrote N cs s begins-start (e .passes) r m out out′ (on (e .cycle l)) (wrote w)))
         (omega (arith, short, ring-few (at (s′ .parent)) N r m (w .ring) (e .cycle l .inside)))
       where
         on : OnCycle N (s′ .parent) (s′ .stamp) r

@@ -1,7 +1,7 @@
 -- A plan depends only on moments 0 to K and clocks 1 to n.
 use mathlib.Core.Path.{_≡_, refl, sym}
 use mathlib.Core.List.{List}
-use Prim.Native.Nat.{ℕ, suc, _+_, _≤_, _<_}
+use Prim.Native.Nat.{ℕ, suc, _≤_, _<_}
 use native.Mathlib.Omega.{arith}
 use lib.ListN.{length}
 use Rattle.table.specs.Step.{Step}
@@ -54,3 +54,20 @@ module _ (P n : ℕ) (σ : List Step) (D : Starts) (a : Asked n σ D) where
       smallest : (q : ℕ → ℕ) → Run P σ u q → Allowed P D n q → (j : ℕ) → 0 < j → j ≤ n → s j ≤ q j
       smallest q w b =
           let old = run-same u q t q (λ i l. sym (e i l)) (λ j g l. refl) w b in p .smallest q (old .0) (old .1)
+
+  -- There is one plan only.
+  pub planned-unique : (t s u r : ℕ → ℕ) → Planned P n σ D t s → Planned P n σ D u r
+      → ((i : ℕ) → i ≤ length σ → t i ≡ u i) × ((j : ℕ) → 0 < j → j ≤ n → s j ≡ r j)
+  planned-unique t s u r p q = (moments, λ j g l. omega (arith, first j g l, second j g l))
+    where
+      moments : (i : ℕ) → i ≤ length σ → t i ≡ u i
+      moments i l =
+          omega (arith, p .earliest u r (q .run) (q .allowed) i l, q .earliest t s (p .run) (p .allowed) i l)
+
+      first : (j : ℕ) → 0 < j → j ≤ n → s j ≤ r j
+      first = let w = run-same u r t r moments (λ j g l. refl) (q .run) (q .allowed) in p .smallest r (w .0) (w .1)
+
+      second : (j : ℕ) → 0 < j → j ≤ n → r j ≤ s j
+      second =
+          let w = run-same t s u s (λ i l. sym (moments i l)) (λ j g l. refl) (p .run) (p .allowed) in
+          q .smallest s (w .0) (w .1)

@@ -1,7 +1,7 @@
 -- What can be planned: a good table and a number of rounds; its constraints in parts, and that no sum of the checks wraps.
 use mathlib.Core.Bool.{Bool, true, false}
 use mathlib.Core.List.{List, List·Memᴰ}
-use Prim.Native.Nat.{ℕ, _+_, _*_, _≤_, _<_}
+use Prim.Native.Nat.{ℕ, _+_, _*_, _≤_}
 use native.Mathlib.Omega.{arith}
 use native.Mathlib.Nat.{mul-le-mul-right, mul-le-mul-left}
 use Rattle.table.specs.Step.{Step, stepsOf, Good}
@@ -17,7 +17,7 @@ use Rattle.paths.specs.Constraint.{Constraint, Fits}
 use Rattle.constraints.specs.Rest.{demandsOf}
 use Rattle.constraints.specs.Constraints.{all-proper}
 use Rattle.plan.specs.Asked.{Asked, asked-any}
-use Rattle.plan.specs.InParts.{inParts, allInParts}
+use Rattle.plan.specs.InParts.{allInParts}
 use Rattle.plan.specs.Passes.{parts-fit}
 
 -- a good table whose guards are on its own clocks

@@ -1,6 +1,6 @@
 -- The smallest starts for the moments of a solution, and the plan that the least solution is.
 use mathlib.Core.Path.{_≡_, refl, _∙_, ap}
-use mathlib.Core.Logic.{_⊎_, inl, inr}
+use mathlib.Core.Logic.{inl, inr}
 use mathlib.Core.List.{List, List·Memᴰ, Memᴰ·map, Memᴰ·of-map}
 use Prim.Native.Nat.{ℕ, suc, _+_, _-_, _≤_, _<_}
 use native.Mathlib.Omega.{arith}
@@ -9,7 +9,7 @@ use lib.ListN.{length}
 use Rattle.table.specs.Step.{Step}
 use Rattle.runs.specs.Run.{Run}
 use Rattle.runs.specs.declared.Demand.{Demand}
-use Rattle.runs.specs.Demand.{Holds, Starts, demands, Allowed}
+use Rattle.runs.specs.Demand.{Starts, demands, Allowed}
 use Rattle.runs.specs.Parts.{gain, loss, holds-parts}
 use Rattle.runs.specs.Satisfies.{Satisfies}
 use Rattle.runs.specs.Rows.{rowAt, row-now, row-past, row-is, run-row, run-satisfies}

@@ -1,13 +1,12 @@
 -- From the passes to the answer.
-use mathlib.Core.Path.{_≡_, refl, sym, ap, subst, _∙_}
-use mathlib.Core.List.{List, List·Memᴰ}
-use Prim.Native.Nat.{ℕ, zero, suc, _+_, _*_, _-_, _≤_, _<_, _^_}
+use mathlib.Core.Path.{_≡_, refl, ap, subst, _∙_}
+use mathlib.Core.List.{List}
+use Prim.Native.Nat.{ℕ, zero, suc, _+_, _*_, _-_, _≤_, _<_}
 use native.Mathlib.Omega.{arith}
-use native.Mathlib.Nat.{mul-le-mul-right, mul-le-mul-left}
 use lib.ListN.{length, take}
 use Rattle.table.specs.Step.{Step}
 use Rattle.table.specs.declared.Table.{Table}
-use Rattle.runs.specs.Demand.{Starts, anyStarts, demands}
+use Rattle.runs.specs.Demand.{anyStarts}
 use Rattle.runs.specs.Loop.{Loop}
 use Rattle.constraints.specs.Rest.{demandsOf}
 use Rattle.constraints.specs.Rounds.{length-rounds}
@@ -15,9 +14,7 @@ use Rattle.paths.specs.Places.{at, written, filled, length-written, at-written,
 use Rattle.paths.specs.State.{State, state}
 use Rattle.paths.specs.Bounds.{Room}
 use Rattle.paths.specs.Code.{Wrote, wrote-rest, Returns, cycle-returns}
-use Rattle.plan.specs.Planned.{Planned}
-use Rattle.plan.specs.Answer.{Rooms, rooms, momentsIn, startsIn, KeptFrom, Found, Refuted}
-use Rattle.plan.specs.Asked.{Asked}
+use Rattle.plan.specs.Answer.{Rooms, rooms, momentsIn, startsIn, Found, Refuted}
 use Rattle.plan.specs.InParts.{allInParts, serves-all}
 use Rattle.plan.specs.Earliest.{Least, solution-now}
 use Rattle.plan.specs.Smallest.{momentsOf, startsOf, least-planned}

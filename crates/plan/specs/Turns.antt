@@ -1,8 +1,8 @@
 -- A pass over the demands of a table, demand by demand.
-use mathlib.Core.Path.{_≡_, refl, sym, ap, subst, _∙_}
+use mathlib.Core.Path.{_≡_, refl, sym, ap, _∙_}
 use mathlib.Core.Logic.{inl, inr}
 use mathlib.Core.Bool.{Bool, false, _||_, or-assoc, or-true, or-false}
-use mathlib.Core.List.{List, [], _∷_, map, List·Memᴰ, List·Memᴰ·head}
+use mathlib.Core.List.{List, [], _∷_, List·Memᴰ}
 use Prim.Native.Nat.{ℕ, suc, _+_, _*_, _-_, _≤_, _<_, _^_}
 use native.Mathlib.Omega.{arith}
 use native.Mathlib.Numerals.{add-one}
@@ -139,7 +139,12 @@ module _ (t : Table) (k q₀ : ℕ) (s₀ : State) (z : Sized t k) where
             count = omega (arith, u .count, ap length (m .left));
             after = turn-after;
             hits = turn-hits;
-            size = record { time = sizes .time ∙ u .size .time; parent = sizes .parent ∙ u .size .parent; stamp = sizes .stamp ∙ u .size .stamp };
+            size =
+                record {
+                  time = sizes .time ∙ u .size .time;
+                  parent = sizes .parent ∙ u .size .parent;
+                  stamp = sizes .stamp ∙ u .size .stamp;
+                };
             room = room-kept P s s′ sizes (u .room);
             from = omega (arith, u .from);
             under = λ v w. omega (arith, u .from, raised v w);

@@ -1,5 +1,5 @@
 -- The question put to bytes: they are refused, or accepted, and then the table by value is the table they write down.
-use mathlib.Core.Path.{_≡_, refl, sym, _∙_, ap, subst}
+use mathlib.Core.Path.{_≡_, refl, sym, _∙_}
 use mathlib.Core.List.{List}
 use Prim.Native.Nat.{ℕ}
 use Rattle.table.specs.declared.Read.{Read}
@@ -8,7 +8,7 @@ use Rattle.table.specs.declared.Refusal.{Refusal}
 use Rattle.table.specs.declared.Table.{Table}
 use Rattle.table.specs.Step.{Step, stepsOf, Good}
 use Rattle.wire.specs.Reading.{readOf}
-use Rattle.wire.specs.Listing.{listing, cycle}
+use Rattle.wire.specs.Listing.{listing}
 use Rattle.wire.specs.Fill.{tableOf}
 use Rattle.format.specs.Found.{Bytes}
 use Rattle.format.specs.Represent.{Represents}

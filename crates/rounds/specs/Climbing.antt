@@ -2,7 +2,7 @@
 use mathlib.Core.Path.{_≡_, refl, sym, ap, _∙_, subst}
 use mathlib.Core.Bool.{Bool, true, false}
 use mathlib.Core.List.{List}
-use Prim.Native.Nat.{ℕ, suc, _+_, _*_, _^_, _≤_, _<_}
+use Prim.Native.Nat.{ℕ, suc, _+_, _^_, _≤_, _<_}
 use native.Mathlib.Omega.{arith}
 use native.Mathlib.Nat.{mul-le-mul-right, mul-pos, pow-le-pow-right, one-le-pow}
 use native.Mathlib.Numerals.{add-one}
@@ -75,7 +75,8 @@ module _ {τ : List Step} {j k : ℕ} {A B : List ℕ} (a : Rounds τ j A) (b : 
   pub rounds-tell : (ok : Bool) (z : List ℕ) → joinOf A B ≡ answer ok z → Tells (copies τ (j + k)) ok z
   rounds-tell ok z e =
       subst (λ (σ : List Step). Tells σ ok z) (sym (copies-add τ j k))
-      (join-tells (sized-rounds (a .table) j pj hj) (sized-rounds (a .table) k pk hk) A B (a .describes) (b .describes) ok z e)
+      (join-tells (sized-rounds (a .table) j pj hj) (sized-rounds (a .table) k pk hk) A B (a .describes) (b .describes)
+      ok z e)
 
 -- ---- The search, where every start is allowed
 

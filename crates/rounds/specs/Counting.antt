@@ -1,29 +1,26 @@
 -- From what the search finds to the answer.
-use mathlib.Core.Path.{_≡_, refl, sym, subst}
+use mathlib.Core.Path.{_≡_}
 use mathlib.Core.Bool.{Bool, true, false}
-use mathlib.Core.Logic.{_↔_}
-use mathlib.Core.List.{List, [], List·Memᴰ·not-nil}
-use Prim.Native.Nat.{ℕ, zero, suc, _+_, _*_, _^_, _≤_, _<_}
+use mathlib.Core.Logic.{_↔_, Iff·trans}
+use mathlib.Core.List.{List, []}
+use Prim.Native.Nat.{ℕ, _<_}
 use native.Mathlib.Omega.{arith}
-use lib.ListN.{length}
 use Rattle.table.specs.declared.Table.{Table}
 use Rattle.table.specs.Step.{Step, Fair, stepsOf, Good}
 use Rattle.runs.specs.Run.{copies}
-use Rattle.runs.specs.Demand.{Holds, anyStarts, Exists, Places}
+use Rattle.runs.specs.Demand.{Holds, anyStarts, Exists}
+use Rattle.runs.specs.Allowed.{any-places}
 use Rattle.runs.specs.Tools.{every-nil}
 use Rattle.zones.specs.Matrix.{Matrix}
-use Rattle.zones.specs.Cells.{matrix}
-use Rattle.effects.specs.Describes.{Describes}
-use Rattle.effects.specs.Demands.{Inside, each, every-each, matrix-is}
+use Rattle.effects.specs.Demands.{each, every-each, matrix-is}
 use Rattle.effects.specs.Begins.{Begins, no-run}
 use Rattle.effects.specs.Count.{limit, unending}
 use Rattle.effects.specs.Climb.{rounds-one, Known, known-none, known-count}
 use Rattle.effects.specs.Rounds.{startMatrix, permits, exists-begins, rounds-exist, any-exists}
 use Rattle.joins.specs.Tells.{Tells}
 use Rattle.joins.specs.Round.{steps-length}
-use Rattle.rounds.specs.declared.Count.{Count}
 use Rattle.rounds.specs.declared.Count.the-variants.{Finite, Endless}
-use Rattle.rounds.specs.Answer.{Allows, Counts}
+use Rattle.rounds.specs.Answer.{Counts}
 use Rattle.rounds.specs.Climbing.{Free, Tabled, Rounds, Climbs}
 
 -- The steps of an accepted table.
@@ -36,47 +33,48 @@ good-tabled t good = record {
 
 -- ---- Any start
 
-places-any : (n : ℕ) → Places n anyStarts
-unfolding anyStarts
-places-any n j p l d m = absurd (List·Memᴰ·not-nil m)
-
--- The matrix of 01's starts.
+-- The matrix of 01's starts, which are free,
 pub starts : ℕ → Matrix
 starts n = startMatrix n anyStarts
 
+-- allows every start.
 pub starts-free : (n : ℕ) → Free (starts n)
 unfolding starts startMatrix anyStarts
 starts-free n P x p =
-    matrix-is 7 P x p (each n (λ j. [])) (every-each (λ d. (d .from < 7) × (d .to < 7)) (λ j. []) n .1 (λ j q l. every-nil _)) .1
+    matrix-is 7 P x p (each n (λ j. []))
+    (every-each (λ d. (d .from < 7) × (d .to < 7)) (λ j. []) n .1 (λ j q l. every-nil _)) .1
     (every-each (Holds P x) (λ j. []) n .1 (λ j q l. every-nil (Holds P x)))
 
 -- ---- The answers
 
 module _ (n : ℕ) (b : n < 7) (τ : List Step) (t : Tabled τ) where
+  -- A run of k rounds exists exactly where one begins at a start that this matrix allows.
   exists-is : (k : ℕ) → Exists n anyStarts (copies τ k) ↔ Begins (starts n) (copies τ k)
   unfolding starts
   exists-is =
-      rounds-exist n anyStarts (startMatrix n anyStarts) b (places-any n) (permits n anyStarts b (places-any n)) τ (t .fair)
+      rounds-exist n anyStarts (startMatrix n anyStarts) b (any-places n) (permits n anyStarts b (any-places n)) τ
+      (t .fair)
       (t .some) (any-exists n)
 
+  -- No rounds run.
   begins-nil : Begins (starts n) []
   unfolding starts
   begins-nil =
-      exists-begins n anyStarts (startMatrix n anyStarts) b (places-any n) (permits n anyStarts b (places-any n)) []
+      exists-begins n anyStarts (startMatrix n anyStarts) b (any-places n) (permits n anyStarts b (any-places n)) []
       (every-nil Fair) (any-exists n)
 
+  -- What is known at the end is the count.
   known-counts : (c : ℕ) → Known (starts n) τ 0 c → c < limit → Counts n τ (Finite c)
   known-counts c k l = record {
-    runs = λ m.
-        let e = exists-is m in
-        let q = known-count (starts n) τ c k m in
-        ((λ r. q .0 (e .0 r)), λ h. e .1 (q .1 h));
+    runs = λ m. Iff·trans (exists-is m) (known-count (starts n) τ c k m);
     small = λ d e. let q : d ≡ c = cc in omega arith;
   }
 
   -- One round has no run.
   pub counts-none : (ok : Bool) (z : List ℕ) → Tells τ ok z → ok ≡ false → Counts n τ (Finite 0)
-  counts-none ok z h e = known-counts 0 (known-none (starts n) τ begins-nil (no-run (starts n) (h .stuck e))) (omega arith)
+  counts-none ok z h e =
+      known-counts 0 (known-none (starts n) τ begins-nil (no-run (starts n) (h .stuck e)))
+      (omega arith)
 
   -- One round has an effect, from which the search starts.
   pub counts-one : (ok : Bool) (z : List ℕ) → Tells τ ok z → ok ≡ true → Rounds τ 1 z

@@ -1,6 +1,6 @@
 -- The search for the count, as the program makes it: each of its cases, for every table of which the cells in hand are
 -- the effect.
-use mathlib.Core.Path.{_≡_, refl}
+use mathlib.Core.Path.{_≡_}
 use mathlib.Core.Logic.{_≢_}
 use mathlib.Core.Bool.{Bool, true, false}
 use mathlib.Core.List.{List}
@@ -14,7 +14,8 @@ use Rattle.zones.specs.Cells.{matrix, answer}
 use Rattle.effects.specs.Count.{limit}
 use Rattle.joins.specs.Tells.{Tells}
 use Rattle.joins.specs.Joining.{joinOf}
-use Rattle.rounds.specs.Climbing.{Free, anywhere, anywhere-free, Rounds, Counted, Climbs, rounds-joinable, rounds-tell}
+use Rattle.rounds.specs.Climbing.{Free, anywhere, anywhere-free, Rounds, Counted, Climbs}
+use Rattle.rounds.specs.Climbing.{rounds-joinable, rounds-tell}
 use Rattle.rounds.specs.Climbing.{power-limit, power-some, power-double}
 use Rattle.rounds.specs.Climbing.{climbs-limit, climbs-top, climbs-on, climbs-more, climbs-same}
 
@@ -26,65 +27,106 @@ pub record Searched (i p : ℕ) (cells : List ℕ) (endless : Bool) (c : ℕ) (f
 abbrev pub OfRounds : ℕ → List ℕ → Type 0
 OfRounds p cells = (τ : List Step) × Rounds τ p cells
 
-module _ (i p : ℕ) (l : i ≤ 24) (e : p ≡ 2 ^ i) (E : List ℕ) where
+-- p is 2 ^ i, and not above the limit.
+pub record Power (i p : ℕ) : Type 0 where
+  pub low : i ≤ 24
+  pub is : p ≡ 2 ^ i
+
+-- Below the limit, E was joined with itself.
+pub record Doubled (i p : ℕ) (E : List ℕ) (ok : Bool) (z : List ℕ) : Type 0 where
+  pub power : Power i p
+  pub below : i ≢ 24
+  pub two : joinOf E E ≡ answer ok z
+
+-- Twice as many rounds have an effect, and the search went on from it.
+pub record Above (i p : ℕ) (E : List ℕ) (up : Bool) (c : ℕ) (A : List ℕ) : Type 0 where
+  pub ok : Bool
+  pub cells : List ℕ
+  pub doubled : Doubled i p E ok cells
+  pub run : ok ≡ true
+  pub searched : Searched (i + 1) (p + p) cells up c A
+
+-- ---- At 2 ^ i rounds
+
+module _ {i p : ℕ} (w : Power i p) where
   few : p ≤ limit
-  few = rw e (power-limit i l)
+  few = rw (w .is) (power-limit i (w .low))
+
+  some : 0 < p
+  some = power-some i p (w .is)
 
   -- The limit of rounds runs.
-  pub searched-limit : i ≡ 24 → (c : ℕ) → Searched i p E true c E
-  searched-limit q c = record { finds = λ D free τ h. climbs-limit D free i p e h q c E }
+  pub searched-limit : i ≡ 24 → (E : List ℕ) (c : ℕ) → Searched i p E true c E
+  searched-limit q E c = record { finds = λ D free τ h. climbs-limit D free i p (w .is) h q c E }
 
-  -- Twice as many rounds,
-  pub twice-joinable : OfRounds p E → AllWithin 14 (2 ^ 52) (matrix E) × AllWithin 14 (2 ^ 52) (matrix E)
-  twice-joinable (τ, h) = rounds-joinable h h (power-some i p e) (power-some i p e) few few
+  -- The effect may be joined with itself.
+  pub twice-joinable : (E : List ℕ) → OfRounds p E → AllWithin 14 (2 ^ 52) (matrix E) × AllWithin 14 (2 ^ 52) (matrix E)
+  twice-joinable E (τ, h) = rounds-joinable h h some some few few
 
-  module _ (n : i ≢ 24) (ok : Bool) (z : List ℕ) (two : joinOf E E ≡ answer ok z) where
-    tells : {τ : List Step} → Rounds τ p E → Tells (copies τ (p + p)) ok z
-    tells h = rounds-tell h h (power-some i p e) (power-some i p e) few few ok z two
+-- ---- At twice as many
 
-    -- which do not run,
-    pub searched-top : ok ≡ false → Searched i p E false p E
-    searched-top q = record { finds = λ D free τ h. climbs-top D free i p e h (omega arith) ok z (tells h) q }
+module _ {i p : ℕ} {E : List ℕ} {ok : Bool} {z : List ℕ} (d : Doubled i p E ok z) where
+  tells : {τ : List Step} → Rounds τ p E → Tells (copies τ (p + p)) ok z
+  tells h =
+      rounds-tell h h (some (d .power)) (some (d .power)) (few (d .power)) (few (d .power)) ok z (d .two)
 
-    module _ (run : ok ≡ true) where
-      -- or have an effect from which the search goes on.
-      pub twice-rounds : {τ : List Step} → Rounds τ p E → Rounds τ (p + p) z
-      twice-rounds h = record { table = h .table; describes = tells h .runs run }
+  pub double-small : (p + p ≡ 2 ^ (i + 1)) × (p + p ≤ limit)
+  double-small = power-double i p (omega (arith, d .power .low, d .below)) (d .power .is)
 
-      module _ (up : Bool) (c : ℕ) (A : List ℕ) (s : Searched (i + 1) (p + p) z up c A) where
-        above : (D : Matrix) → Free D → {τ : List Step} → Rounds τ p E → Climbs D τ (i + 1) up c A
-        above D free {τ} h = s .finds D free τ (twice-rounds h)
+  -- They do not run,
+  pub searched-top : ok ≡ false → Searched i p E false p E
+  searched-top q = record {
+    finds = λ D free τ h.
+        climbs-top D free i p (d .power .is) h (omega (arith, d .power .low, d .below)) ok z (tells h) q;
+  }
 
-        pub searched-on : up ≡ true → Searched i p E up c A
-        searched-on q = record { finds = λ D free τ h. climbs-on D free i p e h up c A (above D free h) q }
+  -- or have an effect.
+  twice-rounds : ok ≡ true → {τ : List Step} → Rounds τ p E → Rounds τ (p + p) z
+  twice-rounds q h = record { table = h .table; describes = tells h .runs q }
 
-        module _ (off : up ≡ false) where
-          counted : {τ : List Step} → Rounds τ p E → Counted anywhere τ (i + 1) c A
-          counted h = above anywhere anywhere-free h .counted off
+  pub twice-of : ok ≡ true → OfRounds p E → OfRounds (p + p) z
+  twice-of q (τ, h) = (τ, twice-rounds q h)
 
-          small : {τ : List Step} → Rounds τ p E → c + (p + p) ≤ limit
-          small h = omega (arith, counted h .small, power-double i p (omega arith) e)
+-- ---- On the way back
 
-          -- These rounds after those that were counted,
-          pub more-small : OfRounds p E → c + p ≤ limit
-          more-small (τ, h) = omega (arith, small h)
+module _ {i p : ℕ} {E : List ℕ} {up : Bool} {c : ℕ} {A : List ℕ} (a : Above i p E up c A) where
+  w : Power i p
+  w = a .doubled .power
 
-          pub more-joinable : OfRounds p E → AllWithin 14 (2 ^ 52) (matrix A) × AllWithin 14 (2 ^ 52) (matrix E)
-          more-joinable (τ, h) =
-              rounds-joinable (counted h .effect) h (counted h .some) (power-some i p e) (omega (arith, small h)) few
+  above : (D : Matrix) → Free D → {τ : List Step} → Rounds τ p E → Climbs D τ (i + 1) up c A
+  above D free {τ} h = a .searched .finds D free τ (twice-rounds (a .doubled) (a .run) h)
 
-          module _ (o : Bool) (y : List ℕ) (both : joinOf A E ≡ answer o y) where
-            more-tells : {τ : List Step} → Rounds τ p E → Tells (copies τ (c + p)) o y
-            more-tells h =
-                rounds-tell (counted h .effect) h (counted h .some) (power-some i p e) (omega (arith, small h)) few o y both
+  -- Twice as many run without end,
+  pub searched-on : up ≡ true → Searched i p E up c A
+  searched-on q = record { finds = λ D free τ h. climbs-on D free i p (w .is) h up c A (above D free h) q }
 
-            -- which do not run, or do.
-            pub searched-same : o ≡ false → Searched i p E up c A
-            searched-same q = record {
-              finds = λ D free τ h. climbs-same D free i p e h up c A (above D free h) off o y (more-tells h) q;
-            }
+  -- or were counted.
+  module _ (off : up ≡ false) where
+    counted : {τ : List Step} → Rounds τ p E → Counted anywhere τ (i + 1) c A
+    counted h = above anywhere anywhere-free h .counted off
 
-            pub searched-more : o ≡ true → Searched i p E false (c + p) y
-            searched-more q = record {
-              finds = λ D free τ h. climbs-more D free i p e h up c A (above D free h) off o y (more-tells h) q;
-            }
+    small : {τ : List Step} → Rounds τ p E → c + (p + p) ≤ limit
+    small h = omega (arith, counted h .small, double-small (a .doubled))
+
+    pub more-small : OfRounds p E → c + p ≤ limit
+    more-small (τ, h) = omega (arith, small h)
+
+    pub more-joinable : OfRounds p E → AllWithin 14 (2 ^ 52) (matrix A) × AllWithin 14 (2 ^ 52) (matrix E)
+    more-joinable (τ, h) =
+        rounds-joinable (counted h .effect) h (counted h .some) (some w) (omega (arith, small h)) (few w)
+
+    -- With these rounds too they do not run, or do.
+    module _ (ok : Bool) (z : List ℕ) (both : joinOf A E ≡ answer ok z) where
+      more-tells : {τ : List Step} → Rounds τ p E → Tells (copies τ (c + p)) ok z
+      more-tells h =
+          rounds-tell (counted h .effect) h (counted h .some) (some w) (omega (arith, small h)) (few w) ok z both
+
+      pub searched-same : ok ≡ false → Searched i p E up c A
+      searched-same q = record {
+        finds = λ D free τ h. climbs-same D free i p (w .is) h up c A (above D free h) off ok z (more-tells h) q;
+      }
+
+      pub searched-more : ok ≡ true → Searched i p E false (c + p) z
+      searched-more q = record {
+        finds = λ D free τ h. climbs-more D free i p (w .is) h up c A (above D free h) off ok z (more-tells h) q;
+      }

@@ -1,7 +1,6 @@
 -- `joins::clock` meets its contract: its three bounds are the constraints of the clock.
 use Rattle.joins.specs.Fetch.{clock-put}
 use borrow.Author.Needs.{needs}
-use native.Mathlib.Omega.{arith}
 use Rattle.joins.proofs.clock.Statement.{statement}
 use Rattle.joins.proofs.clock.Tie as tie
 
@@ -27,7 +26,8 @@ returns : tie.Need-returns
 returns c =
     let s = c .before .before .before .before in
     clock-put (s .args .reset) (s .args .j) (c .before .before .before .last .result) (s .args .m .cells) _ _ _
-    (c .before .before .before .last .ensures .0) (c .before .before .tighten .ensures) (c .before .tighten2 .ensures) (c .tighten3 .ensures)
+    (c .before .before .before .last .ensures .0) (c .before .before .tighten .ensures) (c .before .tighten2 .ensures)
+    (c .tighten3 .ensures)
 
 pub clock-spec : {M : Type 1} → statement M
 clock-spec =

@@ -1,10 +1,10 @@
 -- `joins::clocks` meets its contract. What is left to put in, put into what is there, is what was to be put in.
-use mathlib.Core.Path.{_≡_, refl, ap, _∙_}
+use mathlib.Core.Path.{_≡_, refl, _∙_}
 use Prim.Native.Nat.{_≤_}
 use Rattle.table.specs.Step.{stepAt}
 use Rattle.effects.specs.Demands.{each}
 use Rattle.effects.specs.StepDemands.{clockDemands}
-use Rattle.joins.specs.Puts.{putOf, putsOf}
+use Rattle.joins.specs.Puts.{putsOf}
 use Rattle.joins.specs.Fetch.{clocks-less, clocks-done}
 use borrow.Author.Needs.{needs}
 use native.Mathlib.Omega.{arith}
@@ -14,7 +14,8 @@ use Rattle.joins.proofs.clocks.Tie as tie
 abbrev Inv-loop : tie.InvT-loop
 Inv-loop i t out₀ j₀ out j =
     (j ≤ 6)
-    × (putsOf (each j (clockDemands (stepAt t i))) (out .cells) ≡ putsOf (each 6 (clockDemands (stepAt t i))) (out₀ .cells))
+    × (putsOf (each j (clockDemands (stepAt t i))) (out .cells)
+    ≡ putsOf (each 6 (clockDemands (stepAt t i))) (out₀ .cells))
 
 abbrev μ-loop : tie.MeasureT-loop
 μ-loop i t out₀ j₀ out j = j
@@ -49,8 +50,11 @@ loop-less c = search needs
 loop-again : tie.Need-loop-again Inv-loop μ-loop
 loop-again c =
     let h = c .before .before .before in
-    let s = h .before .before .before in
-    (search needs, clocks-less (s .args .t1) (s .args .i) (h .loop .j) (h .loop .out .cells) _ (search needs) (search needs) (c .clock .ensures) ∙ h .loop .inv .1)
+    let s = h .before .before .before in (
+      search needs,
+      clocks-less (s .args .t1) (s .args .i) (h .loop .j) (h .loop .out .cells) _ (search needs)
+          (search needs) (c .clock .ensures) ∙ h .loop .inv .1,
+    )
 
 returns : tie.Need-returns Inv-loop μ-loop
 returns c =

@@ -1,6 +1,6 @@
 -- `joins::ends` meets its contract. The cells passed are the outer ones; the measure is what is left.
-use mathlib.Core.Path.{_≡_, ap, _∙_}
-use Prim.Native.Nat.{ℕ, _≤_, _<_, _-_, _+_, _*_, _/_, _%_, min}
+use mathlib.Core.Path.{_≡_, _∙_}
+use Prim.Native.Nat.{ℕ, _≤_, _<_, _-_}
 use lib.ListN.{length, getD, length-set}
 use Rattle.zones.specs.Tab.{is-tab, tab-more}
 use Rattle.joins.specs.Gluing.{outerCell, outerOf}

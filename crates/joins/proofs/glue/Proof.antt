@@ -1,6 +1,6 @@
 -- `joins::glue` meets its contract. The cells passed are those of `gluedOf`; the measure is what is left.
-use mathlib.Core.Path.{_≡_, ap, _∙_}
-use Prim.Native.Nat.{ℕ, _≤_, _<_, _-_, _+_, _*_, _/_, _%_, min}
+use mathlib.Core.Path.{_≡_, _∙_}
+use Prim.Native.Nat.{ℕ, _≤_, _<_, _-_}
 use lib.ListN.{length, getD, length-set}
 use Rattle.zones.specs.Tab.{is-tab, tab-more}
 use Rattle.joins.specs.Gluing.{gluedOf, glueOf}

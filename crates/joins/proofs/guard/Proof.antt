@@ -1,8 +1,6 @@
 -- `joins::guard` meets its contract: the bounds of each relation are its constraints.
-use mathlib.Core.Path.{_≡_, subst}
 use Rattle.joins.specs.Fetch.{under-put, most-put, exactly-put, least-put, over-put}
 use borrow.Author.Needs.{needs}
-use native.Mathlib.Omega.{arith}
 use Rattle.joins.proofs.guard.Statement.{statement}
 use Rattle.joins.proofs.guard.Tie as tie
 
@@ -63,27 +61,33 @@ tighten-requires-6 c κs = search needs
 returns : tie.Need-returns
 returns c =
     let s = c .before .before .before .before in
-    rw (c .before .enum-told .given .1) (under-put (s .args .g .clock) (s .args .g .constant) (s .args .m .cells) _ (c .tighten .ensures))
+    rw (c .before .enum-told .given .1)
+    (under-put (s .args .g .clock) (s .args .g .constant) (s .args .m .cells) _ (c .tighten .ensures))
 
 returns-2 : tie.Need-returns-2
 returns-2 c =
     let s = c .before .before .before .before in
-    rw (c .before .enum-told2 .given .1) (most-put (s .args .g .clock) (s .args .g .constant) (s .args .m .cells) _ (c .tighten2 .ensures))
+    rw (c .before .enum-told2 .given .1)
+    (most-put (s .args .g .clock) (s .args .g .constant) (s .args .m .cells) _ (c .tighten2 .ensures))
 
 returns-3 : tie.Need-returns-3
 returns-3 c =
     let s = c .before .before .before .before .before in
-    rw (c .before .before .enum-told3 .given .1) (exactly-put (s .args .g .clock) (s .args .g .constant) (s .args .m .cells) _ _ (c .before .tighten3 .ensures) (c .tighten4 .ensures))
+    rw (c .before .before .enum-told3 .given .1)
+    (exactly-put (s .args .g .clock) (s .args .g .constant) (s .args .m .cells) _ _ (c .before .tighten3 .ensures)
+    (c .tighten4 .ensures))
 
 returns-4 : tie.Need-returns-4
 returns-4 c =
     let s = c .before .before .before .before in
-    rw (c .before .enum-told4 .given .1) (least-put (s .args .g .clock) (s .args .g .constant) (s .args .m .cells) _ (c .tighten5 .ensures))
+    rw (c .before .enum-told4 .given .1)
+    (least-put (s .args .g .clock) (s .args .g .constant) (s .args .m .cells) _ (c .tighten5 .ensures))
 
 returns-5 : tie.Need-returns-5
 returns-5 c =
     let s = c .before .before .before .before in
-    rw (c .before .enum-told5 .given .1) (over-put (s .args .g .clock) (s .args .g .constant) (s .args .m .cells) _ (c .tighten6 .ensures))
+    rw (c .before .enum-told5 .given .1)
+    (over-put (s .args .g .clock) (s .args .g .constant) (s .args .m .cells) _ (c .tighten6 .ensures))
 
 pub guard-spec : {M : Type 1} → statement M
 guard-spec =

@@ -1,11 +1,11 @@
 -- `joins::guards` meets its contract. What is left to put in, put into what is there, is what was to be put in.
-use mathlib.Core.Path.{_≡_, refl, ap, _∙_}
+use mathlib.Core.Path.{_≡_, refl, _∙_}
 use Prim.Native.Nat.{_≤_, _-_, _+_}
 use lib.ListN.{getD}
-use lib.Seq.{slice, slice-empty}
+use lib.Seq.{slice}
 use Rattle.table.specs.Step.{stepAt}
 use Rattle.runs.specs.Demand.{guardsDemands}
-use Rattle.joins.specs.Puts.{putOf, putsOf}
+use Rattle.joins.specs.Puts.{putsOf}
 use Rattle.joins.specs.Fetch.{guards-less, guards-done, guard-fair}
 use borrow.Author.Needs.{needs}
 use native.Mathlib.Omega.{arith}
@@ -15,7 +15,8 @@ use Rattle.joins.proofs.guards.Tie as tie
 abbrev Inv-loop : tie.InvT-loop
 Inv-loop i t end out₀ k₀ out k =
     (k₀ ≤ k) × (k ≤ end) × (end ≤ 64)
-    × (putsOf (guardsDemands (slice k end (t .guards)) 7 (λ j. j)) (out .cells) ≡ putsOf (guardsDemands (slice k₀ end (t .guards)) 7 (λ j. j)) (out₀ .cells))
+    × (putsOf (guardsDemands (slice k end (t .guards)) 7 (λ j. j)) (out .cells)
+    ≡ putsOf (guardsDemands (slice k₀ end (t .guards)) 7 (λ j. j)) (out₀ .cells))
 
 abbrev μ-loop : tie.MeasureT-loop
 μ-loop i t end out₀ k₀ out k = end - k
@@ -65,7 +66,8 @@ loop-again c =
       search needs,
       search needs,
       search needs,
-      guards-less (h .loop .k) (getD (s .args .t2 .ends) (s .args .i + 1) 0) (s .args .t2 .guards) _ (h .loop .out .cells) _ (omega arith)
+      guards-less (h .loop .k) (getD (s .args .t2 .ends) (s .args .i + 1) 0) (s .args .t2 .guards) _
+          (h .loop .out .cells) _ (omega arith)
           (omega (arith, s .pre .0 .guards-size)) (c .guard .ensures)
           ∙ h .loop .inv .3,
     )
@@ -75,7 +77,8 @@ unfolding stepAt
 returns c =
     let h = c .before in
     let s = h .before .before .before in
-    guards-done (h .loop .k) _ (s .args .t2 .guards) (h .loop .out .cells) (omega arith) (h .loop .inv .1) ∙ h .loop .inv .3
+    guards-done (h .loop .k) _ (s .args .t2 .guards) (h .loop .out .cells) (omega arith) (h .loop .inv .1)
+    ∙ h .loop .inv .3
 
 pub guards-spec : {M : Type 1} → statement M
 guards-spec =

@@ -11,8 +11,11 @@ glue-requires c κs = search needs
 
 close-requires : tie.Need-close-requires
 close-requires c κs =
-    let s = c .before in
-    (search needs, rw (c .glue .ensures) (glue-ranged (2 ^ 52) (s .args .a .cells) (s .args .b .cells) (s .pre .0) (s .pre .1)))
+    let s = c .before in (
+      search needs,
+      rw (c .glue .ensures)
+          (glue-ranged (2 ^ 52) (s .args .a .cells) (s .args .b .cells) (s .pre .0) (s .pre .1)),
+    )
 
 ends-requires : tie.Need-ends-requires
 ends-requires c κs = search needs

@@ -21,8 +21,12 @@ step-effect-requires c κs = search needs
 
 loop-holds : tie.Need-loop-holds Inv-loop μ-loop
 loop-holds c =
-    let s = c .before in
-    (search needs, s .pre .steps-some, first-tells (s .args .t) (s .pre) (c .step-effect .result .ok) (c .step-effect .result .zone .cells) (c .step-effect .ensures))
+    let s = c .before in (
+      search needs,
+      s .pre .steps-some,
+      first-tells (s .args .t) (s .pre) (c .step-effect .result .ok)
+          (c .step-effect .result .zone .cells) (c .step-effect .ensures),
+    )
 
 step-more-requires : tie.Need-step-more-requires Inv-loop μ-loop
 step-more-requires c κs = search needs

@@ -5,12 +5,13 @@ use Rattle.zones.specs.Cells.{closeOf}
 use Rattle.joins.specs.Raw.{rawOf, raw-put, raw-closable, effectOf}
 use Rattle.joins.specs.Fetch.{step-fair}
 use borrow.Author.Needs.{needs}
-use native.Mathlib.Omega.{arith}
 use Rattle.joins.proofs.step_effect.Statement.{statement}
 use Rattle.joins.proofs.step_effect.Tie as tie
 
-raw : (c : tie.After-guards) → c .guards .result .cells ≡ rawOf (stepAt (c .before .before .args .t) (c .before .before .args .i))
-raw c = raw-put (stepAt (c .before .before .args .t) (c .before .before .args .i)) _ _ (c .before .clocks .ensures) (c .guards .ensures)
+raw : (c : tie.After-guards)
+    → c .guards .result .cells ≡ rawOf (stepAt (c .before .before .args .t) (c .before .before .args .i))
+raw c = raw-put (stepAt (c .before .before .args .t) (c .before .before .args .i)) _ _ (c .before .clocks .ensures)
+    (c .guards .ensures)
 
 clocks-requires : tie.Need-clocks-requires
 clocks-requires c κs = search needs
@@ -20,8 +21,11 @@ guards-requires c κs = search needs
 
 close-requires : tie.Need-close-requires
 close-requires c κs =
-    let s = c .before .before in
-    (search needs, raw-closable (stepAt (s .args .t) (s .args .i)) (step-fair (s .args .t) (s .pre .0) (s .args .i) (s .pre .1)) _ (raw c))
+    let s = c .before .before in (
+      search needs,
+      raw-closable (stepAt (s .args .t) (s .args .i))
+          (step-fair (s .args .t) (s .pre .0) (s .args .i) (s .pre .1)) _ (raw c),
+    )
 
 returns : tie.Need-returns
 unfolding effectOf

@@ -8,7 +8,8 @@ use Rattle.joins.proofs.step_more.Tie as tie
 returns : tie.Need-returns
 returns c =
     let s = c .before .before in
-    before-stuck (s .args .t) (s .pre .0) (s .args .i) (s .pre .1) (s .pre .2) (s .args .before .ok) (s .args .before .zone .cells)
+    before-stuck (s .args .t) (s .pre .0) (s .args .i) (s .pre .1) (s .pre .2) (s .args .before .ok)
+    (s .args .before .zone .cells)
     (not-true _ (c .if1 .taken)) (s .pre .3)
 
 step-effect-requires : tie.Need-step-effect-requires
@@ -26,7 +27,8 @@ join-requires c κs =
     let s = c .before .before .before .before .before .before .before in
     let e = c .before .before .before .before .step-effect in
     step-joinable (s .args .t) (s .pre .0) (s .args .i) (s .pre .1) (s .pre .2) (s .args .before .ok) (e .result .ok)
-    (s .args .before .zone .cells) (e .result .zone .cells) (not-false _ (c .before .before .before .before .before .if1 .left))
+    (s .args .before .zone .cells) (e .result .zone .cells)
+    (not-false _ (c .before .before .before .before .before .if1 .left))
     (not-false _ (c .before .before .if2 .left)) (s .pre .3) (e .ensures)
 
 returns-3 : tie.Need-returns-3
@@ -34,8 +36,10 @@ returns-3 c =
     let s = c .before .before .before .before .before .before .before .before in
     let e = c .before .before .before .before .before .step-effect in
     step-joined (s .args .t) (s .pre .0) (s .args .i) (s .pre .1) (s .pre .2) (s .args .before .ok) (e .result .ok)
-    (s .args .before .zone .cells) (e .result .zone .cells) (not-false _ (c .before .before .before .before .before .before .if1 .left))
-    (not-false _ (c .before .before .before .if2 .left)) (s .pre .3) (e .ensures) (c .join .result .ok) (c .join .result .zone .cells) (c .join .ensures)
+    (s .args .before .zone .cells) (e .result .zone .cells)
+    (not-false _ (c .before .before .before .before .before .before .if1 .left))
+    (not-false _ (c .before .before .before .if2 .left)) (s .pre .3) (e .ensures) (c .join .result .ok)
+    (c .join .result .zone .cells) (c .join .ensures)
 
 pub step-more-spec : {M : Type 1} → statement M
 step-more-spec =

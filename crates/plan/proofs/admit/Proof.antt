@@ -8,9 +8,6 @@ use borrow.Author.Needs.{needs}
 use native.Mathlib.Omega.{arith}
 use Rattle.plan.proofs.admit.Statement.{statement}
 use Rattle.plan.proofs.admit.Tie as tie
-use Rattle.plan.proofs.admit.Reads as reads
-use Rattle.plan.proofs.admit.Lts as lts
-use Rattle.plan.proofs.refuse.Reads as refuse-reads
 
 refuse-requires : tie.Need-refuse-requires
 refuse-requires c κs = search needs
@@ -22,7 +19,8 @@ many k steps p h = omega (arith, mul-le-mul-left k p)
 returns : tie.Need-returns
 unfolding refusedFor
 returns c =
-    let s = c .before .before in (c .refuse .ensures) ∙ sym (admit-rounds (s .args .clocks) (s .args .steps) (s .args .k) (s .args .times) (s .args .starts) (s .args .room) (inl (c .before .if1 .taken)))
+    (c .refuse .ensures) ∙ sym
+    (admit-rounds _ _ _ _ _ _ (inl (c .before .if1 .taken)))
 
 refuse-requires-2 : tie.Need-refuse-requires-2
 refuse-requires-2 c κs = search needs
@@ -30,11 +28,14 @@ refuse-requires-2 c κs = search needs
 returns-2 : tie.Need-returns-2
 unfolding refusedFor
 returns-2 c =
-    let s = c .before .before .before in (c .refuse2 .ensures) ∙ sym (admit-rounds (s .args .clocks) (s .args .steps) (s .args .k) (s .args .times) (s .args .starts) (s .args .room) (inr (many _ _ (s .pre .0) (c .before .if2 .taken))))
+    let s = c .before .before .before in
+    (c .refuse2 .ensures) ∙ sym
+    (admit-rounds _ _ _ _ _ _ (inr (many _ _ (s .pre .0) (c .before .if2 .taken))))
 
 mul-total : tie.Need-mul-total
 mul-total c =
-    let s = c .before .before in omega (arith, mul-le-mul-right (s .args .steps) (c .if2 .left), mul-le-mul-left 1024 (s .pre .1))
+    let s = c .before .before in
+    omega (arith, mul-le-mul-right (s .args .steps) (c .if2 .left), mul-le-mul-left 1024 (s .pre .1))
 
 refuse-requires-3 : tie.Need-refuse-requires-3
 refuse-requires-3 c κs = search needs
@@ -42,7 +43,8 @@ refuse-requires-3 c κs = search needs
 returns-3 : tie.Need-returns-3
 unfolding refusedFor
 returns-3 c =
-    let s = c .before .before .before .before in (c .refuse3 .ensures) ∙ sym (admit-rounds (s .args .clocks) (s .args .steps) (s .args .k) (s .args .times) (s .args .starts) (s .args .room) (inr (c .before .if3 .taken)))
+    (c .refuse3 .ensures) ∙ sym
+    (admit-rounds _ _ _ _ _ _ (inr (c .before .if3 .taken)))
 
 refuse-requires-4 : tie.Need-refuse-requires-4
 refuse-requires-4 c κs = search needs
@@ -50,7 +52,9 @@ refuse-requires-4 c κs = search needs
 returns-4 : tie.Need-returns-4
 unfolding refusedFor
 returns-4 c =
-    let s = c .before .before .before .before .before in (c .refuse4 .ensures) ∙ sym (admit-times (s .args .clocks) (s .args .steps) (s .args .k) (s .args .times) (s .args .starts) (s .args .room) (omega (arith, c .before .before .before .before .if1 .left)) (c .before .before .if3 .left) (c .before .if4 .taken))
+    (c .refuse4 .ensures) ∙ sym
+    (admit-times _ _ _ _ _ _ (omega (arith, c .before .before .before .before .if1 .left))
+    (c .before .before .if3 .left) (c .before .if4 .taken))
 
 refuse-requires-5 : tie.Need-refuse-requires-5
 refuse-requires-5 c κs = search needs
@@ -58,7 +62,9 @@ refuse-requires-5 c κs = search needs
 returns-5 : tie.Need-returns-5
 unfolding refusedFor
 returns-5 c =
-    let s = c .before .before .before .before .before .before in (c .refuse5 .ensures) ∙ sym (admit-starts (s .args .clocks) (s .args .steps) (s .args .k) (s .args .times) (s .args .starts) (s .args .room) (omega (arith, c .before .before .before .before .before .if1 .left)) (c .before .before .before .if3 .left) (c .before .before .if4 .left) (c .before .if5 .taken))
+    (c .refuse5 .ensures) ∙ sym
+    (admit-starts _ _ _ _ _ _ (omega (arith, c .before .before .before .before .before .if1 .left))
+    (c .before .before .before .if3 .left) (c .before .before .if4 .left) (c .before .if5 .taken))
 
 add-if6 : tie.Need-add-if6
 add-if6 c = search needs
@@ -72,12 +78,17 @@ refuse-requires-6 c κs = search needs
 returns-6 : tie.Need-returns-6
 unfolding refusedFor
 returns-6 c =
-    let s = c .before .before .before .before .before .before .before in (c .refuse6 .ensures) ∙ sym (admit-loop (s .args .clocks) (s .args .steps) (s .args .k) (s .args .times) (s .args .starts) (s .args .room) (omega (arith, c .before .before .before .before .before .before .if1 .left)) (c .before .before .before .before .if3 .left) (c .before .before .before .if4 .left) (c .before .before .if5 .left) (c .before .if6 .taken))
+    (c .refuse6 .ensures) ∙ sym
+    (admit-loop _ _ _ _ _ _ (omega (arith, c .before .before .before .before .before .before .if1 .left))
+    (c .before .before .before .before .if3 .left) (c .before .before .before .if4 .left)
+    (c .before .before .if5 .left) (c .before .if6 .taken))
 
 returns-7 : tie.Need-returns-7
 unfolding refusedFor
 returns-7 c =
-    let s = c .before .before .before .before .before .before in sym (admit-all (s .args .clocks) (s .args .steps) (s .args .k) (s .args .times) (s .args .starts) (s .args .room) (omega (arith, c .before .before .before .before .before .if1 .left)) (c .before .before .before .if3 .left) (c .before .before .if4 .left) (c .before .if5 .left) (c .if6 .left))
+    sym
+    (admit-all _ _ _ _ _ _ (omega (arith, c .before .before .before .before .before .if1 .left))
+    (c .before .before .before .if3 .left) (c .before .before .if4 .left) (c .before .if5 .left) (c .if6 .left))
 
 pub admit-spec : {M : Type 1} → statement M
 admit-spec =

@@ -9,13 +9,8 @@ use Rattle.paths.specs.Constraint.{constraint}
 use Rattle.paths.specs.State.{State}
 use Rattle.paths.specs.Code.{Check}
 use Rattle.plan.specs.InParts.{inParts}
-use native.Mathlib.Omega.{arith}
 use Rattle.plan.proofs.check.Statement.{statement}
 use Rattle.plan.proofs.check.Tie as tie
-use Rattle.plan.proofs.check.Reads as reads
-use Rattle.plan.proofs.check.Lts as lts
-use Rattle.paths.proofs.relax.Reads as relax-reads
-use Rattle.plan.proofs.bit_of.Reads as bit-of-reads
 
 mul-gain : tie.Need-mul-gain
 mul-gain c = search needs
@@ -43,11 +38,15 @@ same-length-3 c = search needs
 
 -- the gain is that of the demand
 again : (parts : ℕ) (d : Demand) (b q : ℕ) (s s′ : State) (r : Bool) → b ≡ bit (d .strict)
-    → Check (constraint (d .from) (d .to) (d .down * parts + b) (d .up * parts)) q s s′ r → Check (inParts parts d) q s s′ r
+    → Check (constraint (d .from) (d .to) (d .down * parts + b) (d .up * parts)) q s s′ r → Check (inParts parts d) q
+    s s′ r
 again parts d b q s s′ r e h = rw e at h
 
 returns : tie.Need-returns
-returns c = again _ (c .before .before .before .before .before .before .before .before .before .before .before .before .before .before .before .before .args .d) _ _ _ _ _ (c .before .before .before .before .before .before .before .before .before .before .before .bit-of .ensures) (c .before .before .before .before .before .before .relax .ensures)
+returns c =
+    let r = c .before .before .before .before .before .before in
+    let e = r .before .before .before .before .before in
+    again _ (e .before .before .before .before .before .args .d) _ _ _ _ _ (e .bit-of .ensures) (r .relax .ensures)
 
 pub check-spec : {M : Type 1} → statement M
 check-spec =

@@ -4,11 +4,6 @@ use borrow.Author.Needs.{needs}
 use native.Mathlib.Omega.{arith}
 use Rattle.plan.proofs.lift.Statement.{statement}
 use Rattle.plan.proofs.lift.Tie as tie
-use Rattle.plan.proofs.lift.Reads as reads
-use Rattle.plan.proofs.lift.Lts as lts
-use Rattle.plan.proofs.bit_of.Reads as bit-of-reads
-use Rattle.plan.proofs.larger.Reads as larger-reads
-use Rattle.plan.proofs.over.Reads as over-reads
 
 returns : tie.Need-returns
 returns c =
@@ -25,11 +20,13 @@ bit-of-requires c κs = search needs
 
 add-asked : tie.Need-add-asked
 add-asked c =
-    let s = c .before .before .before .before .before .before .before in omega (arith, s .pre .down, c .bit-of .ensures)
+    let s = c .before .before .before .before .before .before .before in
+    omega (arith, s .pre .down, c .bit-of .ensures)
 
 add-asked-2 : tie.Need-add-asked-2
 add-asked-2 c =
-    let s = c .before .before .before .before .before .before .before in omega (arith, s .pre .down, s .pre .now, c .bit-of .ensures)
+    let s = c .before .before .before .before .before .before .before in
+    omega (arith, s .pre .down, s .pre .now, c .bit-of .ensures)
 
 mul-given : tie.Need-mul-given
 mul-given c = search needs
@@ -51,11 +48,13 @@ sub-j c = search needs
 
 mul-larger : tie.Need-mul-larger
 mul-larger c =
-    let s = c .before .before .before .before .before .before .before .before .before .before in omega (arith, s .pre .place (c .before .before .before .before .before .before .if1 .left))
+    let s = c .before .before .before .before .before .before .before .before .before .before in
+    omega (arith, s .pre .place (c .before .before .before .before .before .before .if1 .left))
 
 slice-read-larger : tie.Need-slice-read-larger
 slice-read-larger c =
-    let s = c .before .before .before .before .before .before .before .before .before .before .before in s .pre .place (c .before .before .before .before .before .before .before .if1 .left)
+    let s = c .before .before .before .before .before .before .before .before .before .before .before in
+    s .pre .place (c .before .before .before .before .before .before .before .if1 .left)
 
 over-requires : tie.Need-over-requires
 over-requires c κs = search needs
@@ -65,11 +64,14 @@ larger-requires c κs = search needs
 
 mul-starts : tie.Need-mul-starts
 mul-starts c =
-    let s = c .before .before .before .before .before .before .before .before .before .before .before .before .before in omega (arith, s .pre .place (c .before .before .before .before .before .before .before .before .before .if1 .left))
+    let s = c .before .before .before .before .before .before .before .before .before .before .before .before .before in
+    omega
+    (arith, s .pre .place (c .before .before .before .before .before .before .before .before .before .if1 .left))
 
 slice-write-starts : tie.Need-slice-write-starts
 slice-write-starts c =
-    let s = c .before .before .before .before .before .before .before .before .before .before .before .before .before in s .pre .place (c .before .before .before .before .before .before .before .before .before .if1 .left)
+    let s = c .before .before .before .before .before .before .before .before .before .before .before .before .before in
+    s .pre .place (c .before .before .before .before .before .before .before .before .before .if1 .left)
 
 same-length : tie.Need-same-length
 same-length c = search needs
@@ -77,7 +79,10 @@ same-length c = search needs
 returns-2 : tie.Need-returns-2
 returns-2 c =
     let s = c .before .before .before .before .before .before .before .before .before .before .before .before .before in
-    lift-some (s .args .total) _ _ (s .args .d) _ _ _ _ (c .before .before .before .before .before .before .before .before .before .if1 .left) (c .before .before .before .before .before .before .bit-of .ensures) (c .before .over .ensures) (c .larger .ensures)
+    lift-some (s .args .total) _ _ (s .args .d) _ _ _ _
+    (c .before .before .before .before .before .before .before .before .before .if1 .left)
+    (c .before .before .before .before .before .before .bit-of .ensures) (c .before .over .ensures)
+    (c .larger .ensures)
 
 pub lift-spec : {M : Type 1} → statement M
 lift-spec =

@@ -1,3 +1,4 @@
+-- The invariant: what is left to check at the cursor leads to the outcome of the whole pass.
 use borrow.Author.Needs.{needs}
 use native.Mathlib.Omega.{arith}
 use mathlib.Core.Path.{refl}
@@ -6,18 +7,11 @@ use mathlib.Core.List.{List·Memᴰ}
 use lib.ListN.{length}
 use Rattle.constraints.specs.Rest.{demandsOf, rest}
 use Rattle.constraints.specs.Cursor.{Ranged}
-use Rattle.constraints.specs.Constraints.{Moved, move, rest-done, ranged, clocked}
-use Rattle.plan.specs.Sized.{Sized}
+use Rattle.constraints.specs.Constraints.{move, rest-done, ranged, clocked}
 use Rattle.paths.specs.State.{state}
 use Rattle.plan.specs.Turns.{Turn, turn-first, turn-few, turn-fine, turn-relaxable, turn-next, turn-last}
 use Rattle.plan.proofs.pass.Statement.{statement}
 use Rattle.plan.proofs.pass.Tie as tie
-use Rattle.plan.proofs.pass.Reads as reads
-use Rattle.plan.proofs.pass.Lts as lts
-use Rattle.constraints.proofs.current.Reads as current-reads
-use Rattle.constraints.proofs.first.Reads as first-reads
-use Rattle.constraints.proofs.next.Reads as next-reads
-use Rattle.plan.proofs.check.Reads as check-reads
 
 abbrev Inv-loop : tie.InvT-loop
 Inv-loop k time₀ parent₀ stamp₀ q t steps clocks ends flags total parts raised₀ at₀ c₀ time parent stamp raised at c =
@@ -27,18 +21,28 @@ abbrev μ-loop : tie.MeasureT-loop
 μ-loop k time₀ parent₀ stamp₀ q t steps clocks ends flags total parts raised₀ at₀ c₀ time parent stamp raised at c =
     length (rest t k c)
 
--- the question
-sized : (c : tie.Start Inv-loop μ-loop) → Sized (c .args .t1) (c .args .k)
-sized c = c .pre .sized
+-- ---- places: where the pass began, the loop, the demand that is due and its check
+abbrev entry : tie.At-loop Inv-loop μ-loop → tie.Start Inv-loop μ-loop
+entry c = c .before .before .before .before .before .before .before
+
+abbrev head : tie.After-current Inv-loop μ-loop → tie.At-loop Inv-loop μ-loop
+head c = c .before .before .before .before
+
+abbrev now : tie.After-check Inv-loop μ-loop → tie.After-current Inv-loop μ-loop
+now c = c .before .before .before .before
+
+abbrev checked : tie.Joined2 Inv-loop μ-loop → tie.After-check Inv-loop μ-loop
+checked c = c .before .before .before .before .before .before .before
 
 here : (c : tie.At-loop Inv-loop μ-loop) → Ranged (c .loop .c)
-here c = let s = c .before .before .before .before .before .before .before in
+here c = let s = entry c in
     ranged (s .args .t1) (s .args .k) (s .pre .sized .good) (c .loop .c) (c .loop .inv .at) (s .pre .sized .few)
 
--- the demand at the cursor, and what is left after it
-due : (c : tie.After-current Inv-loop μ-loop) → List·Memᴰ (c .current .result) (demandsOf (c .before .before .before .before .before .before .before .before .before .before .before .args .t1) (c .before .before .before .before .before .before .before .before .before .before .before .args .k))
-due c = let s = c .before .before .before .before .before .before .before .before .before .before .before in let l = c .before .before .before .before .loop in
-    move (s .args .t1) (s .args .k) (s .pre .sized .good) (l .c) (l .inv .at) _ _ _ (c .before .before .if1 .taken) (c .current .ensures) refl .listed
+-- the demand at the cursor is one of the table's
+due : (c : tie.After-current Inv-loop μ-loop) → List·Memᴰ (c .current .result) (demandsOf (entry (head c) .args .t1) (entry (head c) .args .k))
+due c = let s = entry (head c) in let l = head c .loop in
+    move (s .args .t1) (s .args .k) (s .pre .sized .good) (l .c) (l .inv .at) _ _ _ (c .before .before .if1 .taken)
+    (c .current .ensures) refl .listed
 
 mul-total : tie.Need-mul-total Inv-loop μ-loop
 mul-total c = search needs
@@ -54,7 +58,8 @@ first-requires c κs = search needs
 
 loop-holds : tie.Need-loop-holds Inv-loop μ-loop
 loop-holds c =
-    let s = c .before .before .before .before .before .before in turn-first (s .args .t1) (s .args .k) (s .args .q) _ (s .pre .sized) (s .pre) _ (c .first .ensures)
+    let s = c .before .before .before .before .before .before in
+    turn-first (s .args .t1) (s .args .k) (s .args .q) _ (s .pre .sized) (s .pre) _ (c .first .ensures)
 
 mul-g : tie.Need-mul-g Inv-loop μ-loop
 mul-g c =
@@ -66,29 +71,55 @@ element-copy-out-g c =
 
 current-requires : tie.Need-current-requires Inv-loop μ-loop
 current-requires c κs =
-    let s = c .before .before .before .before .before .before .before .before .before .before in let l = c .before .before .before .loop in (s .pre .sized .few, clocked (s .args .t1) (s .args .k) (s .pre .sized .good) (l .c) (l .inv .at) _, here (c .before .before .before))
+    let h = c .before .before .before in
+    let s = entry h in
+    let l = h .loop in
+    (s .pre .sized .few, clocked (s .args .t1) (s .args .k) (s .pre .sized .good) (l .c) (l .inv .at) _, here (h))
 
 check-requires : tie.Need-check-requires Inv-loop μ-loop
 check-requires c κs =
-    let s = c .before .before .before .before .before .before .before .before .before .before .before .before .before .before in let l = c .before .before .before .before .before .before .before .loop in let m = due (c .before .before .before) in (turn-fine _ _ _ _ (s .pre .sized) (l .c) (l .at) _ (l .raised) (l .inv) _ m, turn-relaxable _ _ _ _ (s .pre .sized) (l .c) (l .at) _ (l .raised) (l .inv) _ m)
+    let d = c .before .before .before in
+    let s = entry (head d) in
+    let l = head d .loop in
+    let m = due (d) in (
+      turn-fine _ _ _ _ (s .pre .sized) (l .c) (l .at) _ (l .raised) (l .inv) _ m,
+      turn-relaxable _ _ _ _
+          (s .pre .sized) (l .c) (l .at) _ (l .raised) (l .inv) _ m,
+    )
 
 next-requires : tie.Need-next-requires Inv-loop μ-loop
 next-requires c κs =
-    let s = c .before .before .before .before .before .before .before .before .before .before .before .before .before .before .before .before .before .before .before .before .before .before .before .before in (s .pre .sized .good .ends-size, s .pre .sized .good .resets-size, here (c .before .before .before .before .before .before .before .before .before .before .before .before .before .before .before .before .before))
+    let d = now (checked (c .before .before)) in
+    let s = entry (head d) in
+    (s .pre .sized .good .ends-size, s .pre .sized .good .resets-size, here (head d))
 
 add-at : tie.Need-add-at Inv-loop μ-loop
 add-at c =
-    let s = c .before .before .before .before .before .before .before .before .before .before .before .before .before .before .before .before .before .before .before .before .before .before .before .before .before in let l = c .before .before .before .before .before .before .before .before .before .before .before .before .before .before .before .before .before .before .loop in omega (arith, turn-few _ _ _ _ (s .pre .sized) (l .c) (l .at) _ (l .raised) (l .inv), s .pre .stamp)
+    let d = now (checked (c .before .before .before)) in
+    let s = entry (head d) in
+    let l = head d .loop in
+    omega (arith, turn-few _ _ _ _ (s .pre .sized) (l .c) (l .at) _ (l .raised) (l .inv), s .pre .stamp)
 
 loop-less : tie.Need-loop-less Inv-loop μ-loop
 loop-less c =
-    let s = c .before .before .before .before .before .before .before .before .before .before .before .before .before .before .before .before .before .before .before .before .before .before .before .before .before in let l = c .before .before .before .before .before .before .before .before .before .before .before .before .before .before .before .before .before .before .loop in move (s .args .t1) (s .args .k) (s .pre .sized .good) (l .c) (l .inv .at) _ _ _ (c .before .before .before .before .before .before .before .before .before .before .before .before .before .before .before .before .if1 .taken) (c .before .before .before .before .before .before .before .before .before .before .before .before .before .before .current .ensures) (c .next .ensures) .fewer
+    let j = c .before .before .before in
+    let d = now (checked j) in
+    let s = entry (head d) in
+    let l = head d .loop in
+    move (s .args .t1) (s .args .k) (s .pre .sized .good) (l .c) (l .inv .at) _ _ _ (d .before .before .if1 .taken)
+    (d .current .ensures) (c .next .ensures) .fewer
 
 loop-again : tie.Need-loop-again Inv-loop μ-loop
 loop-again c =
-    let s = c .before .before .before .before .before .before .before .before .before .before .before .before .before .before .before .before .before .before .before .before .before .before .before .before .before in let l = c .before .before .before .before .before .before .before .before .before .before .before .before .before .before .before .before .before .before .loop in let m = move (s .args .t1) (s .args .k) (s .pre .sized .good) (l .c) (l .inv .at) _ _ _ (c .before .before .before .before .before .before .before .before .before .before .before .before .before .before .before .before .if1 .taken) (c .before .before .before .before .before .before .before .before .before .before .before .before .before .before .current .ensures) (c .next .ensures) in
-    turn-next _ _ _ _ (s .pre .sized) (l .c) (l .at) _ (l .raised) (l .inv) _ _ m _ _ (c .before .before .before .if2 .raised) (c .before .before .before .before .before .before .before .before .before .before .check .ensures)
-    (⊎-elim (λ w. inl (w .0 .taken, w .1)) (λ w. inr (w .0 .left, w .1)) (c .before .before .before .if2 .came))
+    let j = c .before .before .before in
+    let d = now (checked j) in
+    let s = entry (head d) in
+    let l = head d .loop in
+    let m = move (s .args .t1) (s .args .k) (s .pre .sized .good) (l .c) (l .inv .at) _ _ _
+    (d .before .before .if1 .taken) (d .current .ensures) (c .next .ensures) in
+    turn-next _ _ _ _ (s .pre .sized) (l .c) (l .at) _ (l .raised) (l .inv) _ _ m _ _ (j .if2 .raised)
+    (checked j .check .ensures)
+    (⊎-elim (λ w. inl (w .0 .taken, w .1)) (λ w. inr (w .0 .left, w .1)) (j .if2 .came))
 
 same-length : tie.Need-same-length Inv-loop μ-loop
 same-length c =
@@ -104,7 +135,10 @@ same-length-3 c =
 
 returns : tie.Need-returns Inv-loop μ-loop
 returns c =
-    let s = c .before .before .before .before .before .before .before .before .before in let l = c .before .before .loop in turn-last _ _ _ _ (s .pre .sized) (l .c) (l .at) _ (l .raised) (l .inv) (rest-done (s .args .t1) (s .args .k) (s .pre .sized .good) (l .c) (l .inv .at) (c .if1 .left))
+    let s = entry (c .before .before) in
+    let l = c .before .before .loop in
+    turn-last _ _ _ _ (s .pre .sized) (l .c) (l .at) _ (l .raised) (l .inv)
+    (rest-done (s .args .t1) (s .args .k) (s .pre .sized .good) (l .c) (l .inv .at) (c .if1 .left))
 
 pub pass-spec : {M : Type 1} → statement M
 pass-spec =

@@ -1,3 +1,4 @@
+-- The invariant: m passes are made, each has raised something and left no cycle of parents, so m is at most N.
 use borrow.Author.Needs.{needs}
 use native.Mathlib.Omega.{arith}
 use mathlib.Core.Path.{_≡_, refl, _∙_}
@@ -10,10 +11,6 @@ use Rattle.plan.specs.Ending.{Passing, passing-none, passing-passable, p
 use Rattle.plan.specs.Ending.{ended-quiet, ended-cycle, passing-more, search-size}
 use Rattle.plan.proofs.passes.Statement.{statement}
 use Rattle.plan.proofs.passes.Tie as tie
-use Rattle.plan.proofs.passes.Reads as reads
-use Rattle.plan.proofs.passes.Lts as lts
-use Rattle.paths.proofs.find_cycle.Reads as find-cycle-reads
-use Rattle.plan.proofs.pass.Reads as pass-reads
 
 abbrev Inv-loop : tie.InvT-loop
 Inv-loop t k time₀ parent₀ stamp₀ marks₀ n q₀ m₀ time parent stamp marks q m =
@@ -21,6 +18,19 @@ Inv-loop t k time₀ parent₀ stamp₀ marks₀ n q₀ m₀ time parent stamp m
 
 abbrev μ-loop : tie.MeasureT-loop
 μ-loop t k time₀ parent₀ stamp₀ marks₀ n q₀ m₀ time parent stamp marks q m = n - m
+
+-- ---- places: where the passes began, the loop, the pass just made and the search after it
+abbrev entry : tie.At-loop Inv-loop μ-loop → tie.Start Inv-loop μ-loop
+entry c = c .before .before .before .before .before .before .before
+
+abbrev head : tie.After-pass Inv-loop μ-loop → tie.At-loop Inv-loop μ-loop
+head c = c .before .before .before .before .before
+
+abbrev swept : tie.After-struct-known3 Inv-loop μ-loop → tie.After-pass Inv-loop μ-loop
+swept c = c .before .before .before .before .before .before .before
+
+abbrev raised : tie.After-find-cycle Inv-loop μ-loop → tie.Else1 Inv-loop μ-loop
+raised c = c .before .before .before .before
 
 mul-n : tie.Need-mul-n Inv-loop μ-loop
 mul-n c = search needs
@@ -33,79 +43,146 @@ add-n-2 c = search needs
 
 loop-holds : tie.Need-loop-holds Inv-loop μ-loop
 loop-holds c =
-    let s = c .before .before .before .before .before .before in (passing-none _ _ _ (s .pre .sized) (s .pre .begins), refl)
+    let s = c .before .before .before .before .before .before in
+    (passing-none _ _ _ (s .pre .sized) (s .pre .begins), refl)
 
 pass-requires : tie.Need-pass-requires Inv-loop μ-loop
 pass-requires c κs =
-    let s = c .before .before .before .before .before .before .before .before .before .before .before in let l = c .before .before .before .before .loop in passing-passable _ _ _ (s .pre .sized) (s .pre .begins) _ _ _ (l .inv .0)
+    let s = entry (c .before .before .before .before) in
+    let l = c .before .before .before .before .loop in
+    passing-passable _ _ _ (s .pre .sized) (s .pre .begins) _ _ _ (l .inv .0)
 
 same-length : tie.Need-same-length Inv-loop μ-loop
 same-length c =
-    let s = c .before .before .before .before .before .before .before .before .before .before .before .before .before .before .before .before .before .before .before .before in let l = c .before .before .before .before .before .before .before .before .before .before .before .before .before .loop in more-size _ _ _ (s .pre .sized) (s .pre .begins) _ _ _ (l .inv .0) _ _ _ (c .before .before .before .before .before .before .before .before .pass .ensures) .time
+    let p = swept (c .before) in
+    let s = entry (head p) in
+    let l = head p .loop in
+    more-size _ _ _ (s .pre .sized) (s .pre .begins) _ _ _ (l .inv .0) _ _ _ (p .pass .ensures) .time
 
 same-length-2 : tie.Need-same-length-2 Inv-loop μ-loop
 same-length-2 c =
-    let s = c .before .before .before .before .before .before .before .before .before .before .before .before .before .before .before .before .before .before .before .before in let l = c .before .before .before .before .before .before .before .before .before .before .before .before .before .loop in more-size _ _ _ (s .pre .sized) (s .pre .begins) _ _ _ (l .inv .0) _ _ _ (c .before .before .before .before .before .before .before .before .pass .ensures) .parent
+    let p = swept (c .before) in
+    let s = entry (head p) in
+    let l = head p .loop in
+    more-size _ _ _ (s .pre .sized) (s .pre .begins) _ _ _ (l .inv .0) _ _ _ (p .pass .ensures) .parent
 
 same-length-3 : tie.Need-same-length-3 Inv-loop μ-loop
 same-length-3 c =
-    let s = c .before .before .before .before .before .before .before .before .before .before .before .before .before .before .before .before .before .before .before .before in let l = c .before .before .before .before .before .before .before .before .before .before .before .before .before .loop in more-size _ _ _ (s .pre .sized) (s .pre .begins) _ _ _ (l .inv .0) _ _ _ (c .before .before .before .before .before .before .before .before .pass .ensures) .stamp
+    let p = swept (c .before) in
+    let s = entry (head p) in
+    let l = head p .loop in
+    more-size _ _ _ (s .pre .sized) (s .pre .begins) _ _ _ (l .inv .0) _ _ _ (p .pass .ensures) .stamp
 
 same-length-4 : tie.Need-same-length-4 Inv-loop μ-loop
 same-length-4 c =
-    c .before .before .before .before .before .before .before .before .before .before .before .before .before .loop .inv .1
+    let p = swept (c .before) in head p .loop .inv .1
 
 returns : tie.Need-returns Inv-loop μ-loop
 returns c =
-    let s = c .before .before .before .before .before .before .before .before .before .before .before .before .before .before .before .before .before .before .before .before in let l = c .before .before .before .before .before .before .before .before .before .before .before .before .before .loop in ended-quiet _ _ _ (s .pre .sized) (s .pre .begins) _ _ _ (l .inv .0) _ _ _ (c .before .before .before .before .before .before .before .before .pass .ensures) (not-true _ (c .if1 .taken))
+    let p = swept (c .before) in
+    let s = entry (head p) in
+    let l = head p .loop in
+    ended-quiet _ _ _ (s .pre .sized) (s .pre .begins) _ _ _ (l .inv .0) _ _ _ (p .pass .ensures)
+    (not-true _ (c .if1 .taken))
 
 find-cycle-requires : tie.Need-find-cycle-requires Inv-loop μ-loop
 find-cycle-requires c κs =
-    let s = c .before .before .before .before .before .before .before .before .before .before .before .before .before .before .before .before .before .before .before .before .before .before .before in let l = c .before .before .before .before .before .before .before .before .before .before .before .before .before .before .before .before .loop in more-searchable _ _ _ (s .pre .sized) (s .pre .begins) _ _ _ (l .inv .0) _ _ _ (c .before .before .before .before .before .before .before .before .before .before .before .pass .ensures) _ (omega (arith, s .pre .room, l .inv .1))
+    let p = swept (c .before .before .before .before) in
+    let s = entry (head p) in
+    let l = head p .loop in
+    more-searchable _ _ _ (s .pre .sized) (s .pre .begins) _ _ _ (l .inv .0) _ _ _ (p .pass .ensures) _
+    (omega (arith, s .pre .room, l .inv .1))
 
 same-length-5 : tie.Need-same-length-5 Inv-loop μ-loop
 same-length-5 c =
-    let s = c .before .before .before .before .before .before .before .before .before .before .before .before .before .before .before .before .before .before .before .before .before .before .before .before .before .before .before in let l = c .before .before .before .before .before .before .before .before .before .before .before .before .before .before .before .before .before .before .before .before .loop in more-size _ _ _ (s .pre .sized) (s .pre .begins) _ _ _ (l .inv .0) _ _ _ (c .before .before .before .before .before .before .before .before .before .before .before .before .before .before .before .pass .ensures) .time
+    let f = c .before .before .before in
+    let p = swept (raised f .before) in
+    let s = entry (head p) in
+    let l = head p .loop in
+    more-size _ _ _ (s .pre .sized) (s .pre .begins) _ _ _ (l .inv .0) _ _ _ (p .pass .ensures) .time
 
 same-length-6 : tie.Need-same-length-6 Inv-loop μ-loop
 same-length-6 c =
-    let s = c .before .before .before .before .before .before .before .before .before .before .before .before .before .before .before .before .before .before .before .before .before .before .before .before .before .before .before in let l = c .before .before .before .before .before .before .before .before .before .before .before .before .before .before .before .before .before .before .before .before .loop in more-size _ _ _ (s .pre .sized) (s .pre .begins) _ _ _ (l .inv .0) _ _ _ (c .before .before .before .before .before .before .before .before .before .before .before .before .before .before .before .pass .ensures) .parent
+    let f = c .before .before .before in
+    let p = swept (raised f .before) in
+    let s = entry (head p) in
+    let l = head p .loop in
+    more-size _ _ _ (s .pre .sized) (s .pre .begins) _ _ _ (l .inv .0) _ _ _ (p .pass .ensures) .parent
 
 same-length-7 : tie.Need-same-length-7 Inv-loop μ-loop
 same-length-7 c =
-    let s = c .before .before .before .before .before .before .before .before .before .before .before .before .before .before .before .before .before .before .before .before .before .before .before .before .before .before .before in let l = c .before .before .before .before .before .before .before .before .before .before .before .before .before .before .before .before .before .before .before .before .loop in more-size _ _ _ (s .pre .sized) (s .pre .begins) _ _ _ (l .inv .0) _ _ _ (c .before .before .before .before .before .before .before .before .before .before .before .before .before .before .before .pass .ensures) .stamp
+    let f = c .before .before .before in
+    let p = swept (raised f .before) in
+    let s = entry (head p) in
+    let l = head p .loop in
+    more-size _ _ _ (s .pre .sized) (s .pre .begins) _ _ _ (l .inv .0) _ _ _ (p .pass .ensures) .stamp
 
 same-length-8 : tie.Need-same-length-8 Inv-loop μ-loop
 same-length-8 c =
-    let s = c .before .before .before .before .before .before .before .before .before .before .before .before .before .before .before .before .before .before .before .before .before .before .before .before .before .before .before in let l = c .before .before .before .before .before .before .before .before .before .before .before .before .before .before .before .before .before .before .before .before .loop in search-size _ _ _ _ _ _ (omega (arith, s .pre .room, l .inv .1)) (c .before .before .before .find-cycle .ensures) ∙ l .inv .1
+    let f = c .before .before .before in
+    let p = swept (raised f .before) in
+    let s = entry (head p) in
+    let l = head p .loop in
+    search-size _ _ _ _ _ _ (omega (arith, s .pre .room, l .inv .1)) (f .find-cycle .ensures) ∙ l .inv .1
 
 returns-2 : tie.Need-returns-2 Inv-loop μ-loop
 returns-2 c =
-    let s = c .before .before .before .before .before .before .before .before .before .before .before .before .before .before .before .before .before .before .before .before .before .before .before .before .before .before .before in let l = c .before .before .before .before .before .before .before .before .before .before .before .before .before .before .before .before .before .before .before .before .loop in ended-cycle _ _ _ (s .pre .sized) (s .pre .begins) _ _ _ (l .inv .0) _ _ _ (c .before .before .before .before .before .before .before .before .before .before .before .before .before .before .before .pass .ensures) _ _ _ (c .before .before .before .find-cycle .ensures) (c .if2 .taken)
+    let f = c .before .before .before in
+    let p = swept (raised f .before) in
+    let s = entry (head p) in
+    let l = head p .loop in
+    ended-cycle _ _ _ (s .pre .sized) (s .pre .begins) _ _ _ (l .inv .0) _ _ _ (p .pass .ensures) _ _ _
+    (f .find-cycle .ensures) (c .if2 .taken)
 
 add-m : tie.Need-add-m Inv-loop μ-loop
 add-m c =
-    let s = c .before .before .before .before .before .before .before .before .before .before .before .before .before .before .before .before .before .before .before .before .before .before .before .before .before .before .before in let l = c .before .before .before .before .before .before .before .before .before .before .before .before .before .before .before .before .before .before .before .before .loop in let p = passing-more _ _ _ (s .pre .sized) (s .pre .begins) _ _ _ (l .inv .0) _ _ _ (c .before .before .before .before .before .before .before .before .before .before .before .before .before .before .before .pass .ensures) _ _ _ (c .before .before .before .find-cycle .ensures) (not-false _ (c .before .before .before .before .before .before .before .if1 .left)) (c .if2 .left) in omega (arith, p .few, sized-parts _ _ (s .pre .sized))
+    let f = c .before .before .before in
+    let p = swept (raised f .before) in
+    let s = entry (head p) in
+    let l = head p .loop in
+    let p = passing-more _ _ _ (s .pre .sized) (s .pre .begins) _ _ _ (l .inv .0) _ _ _ (p .pass .ensures) _ _ _
+    (f .find-cycle .ensures) (not-false _ (raised f .if1 .left)) (c .if2 .left) in
+    omega (arith, p .few, sized-parts _ _ (s .pre .sized))
 
 loop-less : tie.Need-loop-less Inv-loop μ-loop
 loop-less c =
-    let s = c .before .before .before .before .before .before .before .before .before .before .before .before .before .before .before .before .before .before .before .before .before .before .before .before .before .before .before in let l = c .before .before .before .before .before .before .before .before .before .before .before .before .before .before .before .before .before .before .before .before .loop in let p = passing-more _ _ _ (s .pre .sized) (s .pre .begins) _ _ _ (l .inv .0) _ _ _ (c .before .before .before .before .before .before .before .before .before .before .before .before .before .before .before .pass .ensures) _ _ _ (c .before .before .before .find-cycle .ensures) (not-false _ (c .before .before .before .before .before .before .before .if1 .left)) (c .if2 .left) in omega (arith, p .few)
+    let f = c .before .before .before in
+    let p = swept (raised f .before) in
+    let s = entry (head p) in
+    let l = head p .loop in
+    let p = passing-more _ _ _ (s .pre .sized) (s .pre .begins) _ _ _ (l .inv .0) _ _ _ (p .pass .ensures) _ _ _
+    (f .find-cycle .ensures) (not-false _ (raised f .if1 .left)) (c .if2 .left) in
+    omega (arith, p .few)
 
 loop-again : tie.Need-loop-again Inv-loop μ-loop
 loop-again c =
-    let s = c .before .before .before .before .before .before .before .before .before .before .before .before .before .before .before .before .before .before .before .before .before .before .before .before .before .before .before in let l = c .before .before .before .before .before .before .before .before .before .before .before .before .before .before .before .before .before .before .before .before .loop in (passing-more _ _ _ (s .pre .sized) (s .pre .begins) _ _ _ (l .inv .0) _ _ _ (c .before .before .before .before .before .before .before .before .before .before .before .before .before .before .before .pass .ensures) _ _ _ (c .before .before .before .find-cycle .ensures) (not-false _ (c .before .before .before .before .before .before .before .if1 .left)) (c .if2 .left), search-size _ _ _ _ _ _ (omega (arith, s .pre .room, l .inv .1)) (c .before .before .before .find-cycle .ensures) ∙ l .inv .1)
+    let f = c .before .before .before in
+    let p = swept (raised f .before) in
+    let s = entry (head p) in
+    let l = head p .loop in (
+      passing-more _ _ _ (s .pre .sized) (s .pre .begins) _ _ _ (l .inv .0) _ _ _ (p .pass .ensures) _ _ _
+          (f .find-cycle .ensures) (not-false _ (raised f .if1 .left)) (c .if2 .left),
+      search-size _ _ _ _ _ _
+          (omega (arith, s .pre .room, l .inv .1)) (f .find-cycle .ensures) ∙ l .inv .1,
+    )
 
 same-length-9 : tie.Need-same-length-9 Inv-loop μ-loop
 same-length-9 c =
-    let s = c .before .before .before .before .before .before .before .before in let l = c .before .loop in passing-size _ _ _ (s .pre .sized) (s .pre .begins) _ _ _ (l .inv .0) .time
+    let s = entry (c .before) in
+    let l = c .before .loop in
+    passing-size _ _ _ (s .pre .sized) (s .pre .begins) _ _ _ (l .inv .0) .time
 
 same-length-10 : tie.Need-same-length-10 Inv-loop μ-loop
 same-length-10 c =
-    let s = c .before .before .before .before .before .before .before .before in let l = c .before .loop in passing-size _ _ _ (s .pre .sized) (s .pre .begins) _ _ _ (l .inv .0) .parent
+    let s = entry (c .before) in
+    let l = c .before .loop in
+    passing-size _ _ _ (s .pre .sized) (s .pre .begins) _ _ _ (l .inv .0) .parent
 
 same-length-11 : tie.Need-same-length-11 Inv-loop μ-loop
 same-length-11 c =
-    let s = c .before .before .before .before .before .before .before .before in let l = c .before .loop in passing-size _ _ _ (s .pre .sized) (s .pre .begins) _ _ _ (l .inv .0) .stamp
+    let s = entry (c .before) in
+    let l = c .before .loop in
+    passing-size _ _ _ (s .pre .sized) (s .pre .begins) _ _ _ (l .inv .0) .stamp
 
 same-length-12 : tie.Need-same-length-12 Inv-loop μ-loop
 same-length-12 c =

@@ -6,10 +6,6 @@ use borrow.Author.Needs.{needs}
 use native.Mathlib.Omega.{arith}
 use Rattle.plan.proofs.plan.Statement.{statement}
 use Rattle.plan.proofs.plan.Tie as tie
-use Rattle.plan.proofs.plan.Reads as reads
-use Rattle.plan.proofs.plan.Lts as lts
-use Rattle.plan.proofs.plan_table.Reads as plan-table-reads
-use Rattle.wire.proofs.parse.Reads as parse-reads
 
 -- each byte is below 256
 small : (c : tie.After-shared-slice-known) → Bytes (c .before .args .bytes .now)
@@ -26,7 +22,9 @@ enum-told c = search needs
 
 plan-table-requires : tie.Need-plan-table-requires
 plan-table-requires c κs =
-    counted-tabled _ (small (c .before .before .before .before .before .before .before .before .before)) _ _ _ (sym (c .before .before .before .before .before .parse .ensures .0) ∙ c .before .before .before .enum-told .given .1) _ (c .before .before .before .before .before .parse .ensures .1)
+    counted-tabled _ (small (c .before .before .before .before .before .before .before .before .before)) _ _ _
+    (sym (c .before .before .before .before .before .parse .ensures .0) ∙ c .before .before .before .enum-told .given .1)
+    _ (c .before .before .before .before .before .parse .ensures .1)
 
 returns : tie.Need-returns
 returns c =
@@ -43,7 +41,16 @@ same-length-3 c = search needs
 
 returns-2 : tie.Need-returns-2
 returns-2 c =
-    counted-answers _ (small (c .before .before .before .before .before .before .before .before .before .before .before .before .before .before .before .before)) _ _ _ (sym (c .before .before .before .before .before .before .before .before .before .before .before .before .parse .ensures .0) ∙ c .before .before .before .before .before .before .before .before .before .before .enum-told .given .1) _ (c .before .before .before .before .before .before .before .before .before .before .before .before .parse .ensures .1) _ _ _ _ (c .before .before .before .before .before .before .plan-table .ensures)
+    counted-answers _
+    (small
+    (c .before .before .before .before .before .before .before .before .before .before .before .before .before .before .before .before))
+    _ _ _
+    (sym
+    (c .before .before .before .before .before .before .before .before .before .before .before .before .parse .ensures .0) ∙
+    c .before .before .before .before .before .before .before .before .before .before .enum-told .given .1)
+    _
+    (c .before .before .before .before .before .before .before .before .before .before .before .before .parse .ensures .1)
+    _ _ _ _ (c .before .before .before .before .before .before .plan-table .ensures)
 
 pub plan-spec : {M : Type 1} → statement M
 plan-spec =

@@ -2,13 +2,8 @@
 use mathlib.Core.Path.{sym, _∙_}
 use Rattle.plan.specs.Admit.{admit-sized, meets-refused, meets-accepted}
 use borrow.Author.Needs.{needs}
-use native.Mathlib.Omega.{arith}
 use Rattle.plan.proofs.plan_table.Statement.{statement}
 use Rattle.plan.proofs.plan_table.Tie as tie
-use Rattle.plan.proofs.plan_table.Reads as reads
-use Rattle.plan.proofs.plan_table.Lts as lts
-use Rattle.plan.proofs.admit.Reads as admit-reads
-use Rattle.plan.proofs.solve_here.Reads as solve-here-reads
 
 admit-requires : tie.Need-admit-requires
 admit-requires c κs = search needs
@@ -21,7 +16,8 @@ enum-told c = search needs
 
 solve-here-requires : tie.Need-solve-here-requires
 solve-here-requires c κs =
-    admit-sized _ _ _ (c .before .before .before .before .before .before .before .before .before .pre) (sym (c .before .before .before .before .before .admit .ensures) ∙ c .before .before .before .enum-told .given .1)
+    admit-sized _ _ _ (c .before .before .before .before .before .before .before .before .before .pre)
+    (sym (c .before .before .before .before .before .admit .ensures) ∙ c .before .before .before .enum-told .given .1)
 
 returns : tie.Need-returns
 returns c =
@@ -38,7 +34,11 @@ same-length-3 c = search needs
 
 returns-2 : tie.Need-returns-2
 returns-2 c =
-    meets-accepted _ _ _ _ _ _ (sym (c .before .before .before .before .before .before .before .before .before .before .before .before .admit .ensures) ∙ c .before .before .before .before .before .before .before .before .before .before .enum-told .given .1) (c .before .before .before .before .before .before .solve-here .ensures)
+    meets-accepted _ _ _ _ _ _
+    (sym
+    (c .before .before .before .before .before .before .before .before .before .before .before .before .admit .ensures) ∙
+    c .before .before .before .before .before .before .before .before .before .before .enum-told .given .1)
+    (c .before .before .before .before .before .before .solve-here .ensures)
 
 pub plan-table-spec : {M : Type 1} → statement M
 plan-table-spec =

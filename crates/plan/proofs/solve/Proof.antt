@@ -2,16 +2,24 @@
 use Rattle.plan.specs.Solve.{start-ready, answer-times, answer-startable, answer-returns}
 use Rattle.plan.specs.Solve.{answer-loop, answer-moments, answer-found}
 use borrow.Author.Needs.{needs}
-use native.Mathlib.Omega.{arith}
 use Rattle.plan.proofs.solve.Statement.{statement}
 use Rattle.plan.proofs.solve.Tie as tie
-use Rattle.plan.proofs.solve.Reads as reads
-use Rattle.plan.proofs.solve.Lts as lts
-use Rattle.paths.proofs.fill.Reads as fill-reads
-use Rattle.paths.proofs.write_cycle.Reads as write-cycle-reads
-use Rattle.plan.proofs.passes.Reads as passes-reads
-use Rattle.plan.proofs.write_moments.Reads as write-moments-reads
-use Rattle.plan.proofs.write_starts.Reads as write-starts-reads
+
+-- ---- places: where it began, the three fills, the passes
+abbrev entry : tie.After-fill → tie.Start
+entry c = c .before .before .before .before .before .before .before .before .before .before .before
+
+abbrev first : tie.After-fill2 → tie.After-fill
+first c = c .before .before .before .before
+
+abbrev second : tie.After-fill3 → tie.After-fill2
+second c = c .before .before .before .before
+
+abbrev third : tie.After-passes-arg4 → tie.After-fill3
+third c = c .before .before .before .before .before .before
+
+abbrev passed : tie.After-slice-known14 → tie.After-passes
+passed c = c .before .before .before .before .before .before .before .before
 
 mul-total : tie.Need-mul-total
 mul-total c = search needs
@@ -39,14 +47,17 @@ fill-requires-3 c κs = search needs
 
 passes-requires : tie.Need-passes-requires
 passes-requires c κs =
-    let s = c .before .before .before .before .before .before .before .before .before .before .before .before .before .before .before .before .before .before .before .before .before .before .before .before .before in
-    start-ready _ _ (s .pre .0) _ _ _ _ _ _ _ (s .pre .2) (c .before .before .before .before .before .before .before .before .before .before .before .before .before .before .fill .ensures) (c .before .before .before .before .before .before .before .before .before .before .fill2 .ensures) (c .before .before .before .before .before .before .fill3 .ensures)
+    let f = third c in let s = entry (first (second f)) in
+    start-ready _ _ (s .pre .0) _ _ _ _ _ _ _ (s .pre .2) (first (second f) .fill .ensures) (second f .fill2 .ensures)
+    (f .fill3 .ensures)
 
 write-cycle-requires : tie.Need-write-cycle-requires
 write-cycle-requires c κs =
-    let s = c .before .before .before .before .before .before .before .before .before .before .before .before .before .before .before .before .before .before .before .before .before .before .before .before .before .before .before .before .before .before .before .before .before .before .before .before .before in
+    let p = passed (c .before .before .before) in let f = third (p .before) in let s = entry (first (second f)) in
     answer-returns _ _ (s .pre .0) _ _ _
-    (start-ready _ _ (s .pre .0) _ _ _ _ _ _ _ (s .pre .2) (c .before .before .before .before .before .before .before .before .before .before .before .before .before .before .before .before .before .before .before .before .before .before .before .before .before .before .fill .ensures) (c .before .before .before .before .before .before .before .before .before .before .before .before .before .before .before .before .before .before .before .before .before .before .fill2 .ensures) (c .before .before .before .before .before .before .before .before .before .before .before .before .before .before .before .before .before .before .fill3 .ensures) .begins) (c .before .before .before .before .before .before .before .before .before .before .before .passes .ensures)
+    (start-ready _ _ (s .pre .0) _ _ _ _ _ _ _ (s .pre .2) (first (second f) .fill .ensures)
+    (second f .fill2 .ensures) (f .fill3 .ensures) .begins)
+    (p .passes .ensures)
     _ (s .pre .1 .loop) (c .before .before .if1 .taken)
 
 same-length : tie.Need-same-length
@@ -66,27 +77,39 @@ same-length-5 c = search needs
 
 returns : tie.Need-returns
 returns c =
-    let s = c .before .before .before .before .before .before .before .before .before .before .before .before .before .before .before .before .before .before .before .before .before .before .before .before .before .before .before .before .before .before .before .before .before .before .before .before .before .before .before .before in
+    let p = passed (c .before .before .before .before .before .before) in
+    let f = third (p .before) in
+    let s = entry (first (second f)) in
     answer-loop _ _ (s .pre .0) _ _ _
-    (start-ready _ _ (s .pre .0) _ _ _ _ _ _ _ (s .pre .2) (c .before .before .before .before .before .before .before .before .before .before .before .before .before .before .before .before .before .before .before .before .before .before .before .before .before .before .before .before .before .fill .ensures) (c .before .before .before .before .before .before .before .before .before .before .before .before .before .before .before .before .before .before .before .before .before .before .before .before .before .fill2 .ensures) (c .before .before .before .before .before .before .before .before .before .before .before .before .before .before .before .before .before .before .before .before .before .fill3 .ensures) .begins) (c .before .before .before .before .before .before .before .before .before .before .before .before .before .before .passes .ensures)
+    (start-ready _ _ (s .pre .0) _ _ _ _ _ _ _ (s .pre .2) (first (second f) .fill .ensures)
+    (second f .fill2 .ensures) (f .fill3 .ensures) .begins)
+    (p .passes .ensures)
     (c .before .before .before .before .before .if1 .taken) _ _ _ _ _ (c .before .before .write-cycle .ensures)
 
 write-moments-requires : tie.Need-write-moments-requires
 write-moments-requires c κs =
-    let s = c .before .before .before .before .before .before .before .before .before .before .before .before .before .before .before .before .before .before .before .before .before .before .before .before .before .before .before .before .before .before .before .before .before .before .before .before .before in (
+    let p = passed (c .before .before .before) in let f = third (p .before) in let s = entry (first (second f)) in (
       answer-times _ _ (s .pre .0) _ _ _
-          (start-ready _ _ (s .pre .0) _ _ _ _ _ _ _ (s .pre .2) (c .before .before .before .before .before .before .before .before .before .before .before .before .before .before .before .before .before .before .before .before .before .before .before .before .before .before .fill .ensures) (c .before .before .before .before .before .before .before .before .before .before .before .before .before .before .before .before .before .before .before .before .before .before .fill2 .ensures) (c .before .before .before .before .before .before .before .before .before .before .before .before .before .before .before .before .before .before .fill3 .ensures) .begins) (c .before .before .before .before .before .before .before .before .before .before .before .passes .ensures),
+          (start-ready _ _ (s .pre .0) _ _ _ _ _ _ _ (s .pre .2) (first (second f) .fill .ensures)
+          (second f .fill2 .ensures) (f .fill3 .ensures) .begins)
+          (p .passes .ensures),
       s .pre .1 .times,
       answer-moments _ _ (s .pre .0) _ _ _
-          (start-ready _ _ (s .pre .0) _ _ _ _ _ _ _ (s .pre .2) (c .before .before .before .before .before .before .before .before .before .before .before .before .before .before .before .before .before .before .before .before .before .before .before .before .before .before .fill .ensures) (c .before .before .before .before .before .before .before .before .before .before .before .before .before .before .before .before .before .before .before .before .before .before .fill2 .ensures) (c .before .before .before .before .before .before .before .before .before .before .before .before .before .before .before .before .before .before .fill3 .ensures) .begins) (c .before .before .before .before .before .before .before .before .before .before .before .passes .ensures)
+          (start-ready _ _ (s .pre .0) _ _ _ _ _ _ _ (s .pre .2) (first (second f) .fill .ensures)
+          (second f .fill2 .ensures) (f .fill3 .ensures) .begins)
+          (p .passes .ensures)
           (c .before .before .if1 .left),
     )
 
 write-starts-requires : tie.Need-write-starts-requires
 write-starts-requires c κs =
-    let s = c .before .before .before .before .before .before .before .before .before .before .before .before .before .before .before .before .before .before .before .before .before .before .before .before .before .before .before .before .before .before .before .before .before .before .before .before .before .before .before .before .before .before in
+    let p = passed (c .before .before .before .before .before .before .before .before) in
+    let f = third (p .before) in
+    let s = entry (first (second f)) in
     answer-startable _ _ (s .pre .0) _ _ _
-    (start-ready _ _ (s .pre .0) _ _ _ _ _ _ _ (s .pre .2) (c .before .before .before .before .before .before .before .before .before .before .before .before .before .before .before .before .before .before .before .before .before .before .before .before .before .before .before .before .before .before .before .fill .ensures) (c .before .before .before .before .before .before .before .before .before .before .before .before .before .before .before .before .before .before .before .before .before .before .before .before .before .before .before .fill2 .ensures) (c .before .before .before .before .before .before .before .before .before .before .before .before .before .before .before .before .before .before .before .before .before .before .before .fill3 .ensures) .begins) (c .before .before .before .before .before .before .before .before .before .before .before .before .before .before .before .before .passes .ensures)
+    (start-ready _ _ (s .pre .0) _ _ _ _ _ _ _ (s .pre .2) (first (second f) .fill .ensures)
+    (second f .fill2 .ensures) (f .fill3 .ensures) .begins)
+    (p .passes .ensures)
     _ (s .pre .1 .starts)
 
 same-length-6 : tie.Need-same-length-6
@@ -109,10 +132,16 @@ same-length-11 c = search needs
 
 returns-2 : tie.Need-returns-2
 returns-2 c =
-    let s = c .before .before .before .before .before .before .before .before .before .before .before .before .before .before .before .before .before .before .before .before .before .before .before .before .before .before .before .before .before .before .before .before .before .before .before .before .before .before .before .before .before .before .before .before .before in
+    let p = passed (c .before .before .before .before .before .before .before .before .before .before .before) in
+    let f = third (p .before) in
+    let s = entry (first (second f)) in
     answer-found _ _ (s .pre .0) _ _ _
-    (start-ready _ _ (s .pre .0) _ _ _ _ _ _ _ (s .pre .2) (c .before .before .before .before .before .before .before .before .before .before .before .before .before .before .before .before .before .before .before .before .before .before .before .before .before .before .before .before .before .before .before .before .before .before .fill .ensures) (c .before .before .before .before .before .before .before .before .before .before .before .before .before .before .before .before .before .before .before .before .before .before .before .before .before .before .before .before .before .before .fill2 .ensures) (c .before .before .before .before .before .before .before .before .before .before .before .before .before .before .before .before .before .before .before .before .before .before .before .before .before .before .fill3 .ensures) .begins) (c .before .before .before .before .before .before .before .before .before .before .before .before .before .before .before .before .before .before .before .passes .ensures)
-    (c .before .before .before .before .before .before .before .before .before .before .if1 .left) _ (s .pre .1) _ _ (c .before .before .before .before .before .before .before .write-moments .ensures) (c .before .before .write-starts .ensures)
+    (start-ready _ _ (s .pre .0) _ _ _ _ _ _ _ (s .pre .2) (first (second f) .fill .ensures)
+    (second f .fill2 .ensures) (f .fill3 .ensures) .begins)
+    (p .passes .ensures)
+    (c .before .before .before .before .before .before .before .before .before .before .if1 .left) _ (s .pre .1) _ _
+    (c .before .before .before .before .before .before .before .write-moments .ensures)
+    (c .before .before .write-starts .ensures)
 
 pub solve-spec : {M : Type 1} → statement M
 solve-spec =

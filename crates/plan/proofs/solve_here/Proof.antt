@@ -5,9 +5,6 @@ use borrow.Author.Needs.{needs}
 use native.Mathlib.Omega.{arith}
 use Rattle.plan.proofs.solve_here.Statement.{statement}
 use Rattle.plan.proofs.solve_here.Tie as tie
-use Rattle.plan.proofs.solve_here.Reads as reads
-use Rattle.plan.proofs.solve_here.Lts as lts
-use Rattle.plan.proofs.solve.Reads as solve-reads
 
 slice-aggregate-solve : tie.Need-slice-aggregate-solve
 slice-aggregate-solve c = search needs

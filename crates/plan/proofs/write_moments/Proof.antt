@@ -7,8 +7,6 @@ use borrow.Author.Needs.{needs}
 use native.Mathlib.Omega.{arith}
 use Rattle.plan.proofs.write_moments.Statement.{statement}
 use Rattle.plan.proofs.write_moments.Tie as tie
-use Rattle.plan.proofs.write_moments.Reads as reads
-use Rattle.plan.proofs.write_moments.Lts as lts
 
 abbrev Inv-loop : tie.InvT-loop
 Inv-loop time total times₀ i₀ times i =
@@ -35,7 +33,8 @@ shared-slice-read-times-2 c = search needs
 
 sub-times : tie.Need-sub-times Inv-loop μ-loop
 sub-times c =
-    let s = c .before .before .before .before in omega (arith, s .pre .2 (c .before .before .before .loop .i + 1) (omega arith))
+    let s = c .before .before .before .before in
+    omega (arith, s .pre .2 (c .before .before .before .loop .i + 1) (omega arith))
 
 mul-times-2 : tie.Need-mul-times-2 Inv-loop μ-loop
 mul-times-2 c = search needs

@@ -18,18 +18,21 @@ rounds-of-requires : tie.Need-rounds-of-requires
 rounds-of-requires c κs =
     let p = c .before .before .before in
     accepted-good (p .before .before .args .bytes .now) (p .parse .result .answer) (p .parse .ensures .0)
-    (p .parse .result .table) (p .parse .ensures .1) (λ i. omega (arith, p .before .shared-slice-known .given i)) _ _ _ (c .before .enum-told .given .1)
+    (p .parse .result .table) (p .parse .ensures .1)
+    (λ i. omega (arith, p .before .shared-slice-known .given i)) _ _ _ (c .before .enum-told .given .1)
 
 returns : tie.Need-returns
 returns c =
     let p = c .before .before .before in
-    answers-refused (p .before .before .args .bytes .now) (p .parse .result .answer) (p .parse .ensures .0) _ (c .before .answer .given .1)
+    answers-refused (p .before .before .args .bytes .now) (p .parse .result .answer) (p .parse .ensures .0) _
+    (c .before .answer .given .1)
 
 returns-2 : tie.Need-returns-2
 returns-2 c =
     let p = c .before .before .before .before in
     answers-counted (p .before .before .args .bytes .now) (p .parse .result .answer) (p .parse .ensures .0)
-    (p .parse .result .table) (p .parse .ensures .1) (λ i. omega (arith, p .before .shared-slice-known .given i)) _ _ _ (c .before .before .enum-told .given .1)
+    (p .parse .result .table) (p .parse .ensures .1)
+    (λ i. omega (arith, p .before .shared-slice-known .given i)) _ _ _ (c .before .before .enum-told .given .1)
     (c .rounds-of .result) (c .rounds-of .ensures)
 
 pub rounds-spec : {M : Type 1} → statement M
