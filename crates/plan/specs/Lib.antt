@@ -23,3 +23,4 @@ pub mod Ending
 pub mod Lift
 pub mod Solve
 pub mod Admit
+pub mod Trimmed

@@ -13,6 +13,7 @@ use table::Guard;
 use table::Read;
 use table::Refusal;
 use table::Table;
+use trim::trim;
 use wire::parse;
 ghost use mathlib.Core.Path.{_≡_};
 ghost use mathlib.Core.Bool.{Bool};
@@ -306,7 +307,7 @@ fn admit(clocks: usize, steps: usize, k: u64, times: usize, starts: usize, room:
     Admission::Accepted
 }
 
-// The question, after the table.
+// The question, after the table. Only the tightest guards of each step are checked.
 fn plan_table(t: Table, k: u64, times: &mut [u64], starts: &mut [u64], room: &mut [u64]) -> Outcome
     requires { ⌜ Tabled t ⌝ }
     ensures { λ a. ⌜ Meets
@@ -318,7 +319,7 @@ fn plan_table(t: Table, k: u64, times: &mut [u64], starts: &mut [u64], room: &mu
     let admission = admit(t.clocks, t.steps, k, times.len(), starts.len(), room.len());
     match admission {
         Admission::Refused(refusal) => Outcome::Refused(refusal),
-        Admission::Accepted => solve_here(t, k as usize, times, starts, room),
+        Admission::Accepted => solve_here(trim(t), k as usize, times, starts, room),
     }
 }
 

@@ -1,1 +1,4 @@
+pub mod Told
+pub mod First
 pub mod Third
+pub mod Second

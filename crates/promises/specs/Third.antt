@@ -1,6 +1,6 @@
 -- The third promise: which numbers of rounds have a run, and that every plan is the earliest.
 use mathlib.Core.Path.{_≡_, subst}
-use mathlib.Core.Logic.{_↔_}
+use mathlib.Core.Logic.{_↔_, Iff·trans, Iff·symm}
 use mathlib.Core.List.{List}
 use Prim.Native.Nat.{ℕ}
 use native.Mathlib.Omega.{arith}
@@ -24,12 +24,8 @@ use Rattle.plan.specs.declared.Admission.{Admission}
 use Rattle.plan.specs.declared.Admission.the-variants as admission
 use Rattle.plan.specs.Planned.{Planned}
 use Rattle.plan.specs.Answer as plan
-
--- the answer is a plan, in P parts to a tick
-abbrev pub IsPlan : Outcome → Type 0
-IsPlan (outcome.Found P) = Unit {0}
-IsPlan (outcome.Loop m) = ⊥
-IsPlan (outcome.Refused f) = ⊥
+use Rattle.judge.specs.Numbers.{countNumbers, planNumbers}
+use Rattle.promises.specs.Told.{Allowed, Given, IsPlan, allows-numbers, plan-numbers}
 
 -- k rounds of the table that the bytes write down
 abbrev pub roundsOf : List ℕ → ℕ → List Step
@@ -42,20 +38,20 @@ RunExists bytes k = Exists (listing bytes .clocks) anyStarts (roundsOf bytes k)
 -- For accepted bytes and the answer r to "rounds":
 pub record Third (bytes : List ℕ) (r : Count) : Type 0 where
   -- for every k, a run of k rounds exists exactly where the answer allows k;
-  pub exists : (k : ℕ) → RunExists bytes k ↔ rounds.Allows r k
+  pub exists : (k : ℕ) → RunExists bytes k ↔ Allowed (countNumbers r) k
   -- every plan is a run, the earliest at every step among all runs of the same rounds in its parts, with the smallest starts;
   pub earliest : (k : ℕ) (before after : plan.Rooms) (P : ℕ) → plan.Answers bytes k before after (outcome.Found P)
       → Planned P (listing bytes .clocks) (roundsOf bytes k) anyStarts (plan.momentsIn (after .times)) (plan.startsIn (after .starts))
   -- and where a plan for k is not refused, it is given exactly where the answer allows k.
   pub given : (k : ℕ) (before after : plan.Rooms) (a : Outcome) → plan.askingOf bytes k before ≡ admission.Accepted
-      → plan.Answers bytes k before after a → IsPlan a ↔ rounds.Allows r k
+      → plan.Answers bytes k before after a → Given (planNumbers a) ↔ Allowed (countNumbers r) k
 
 module _ (bytes : List ℕ) (h : Bytes bytes) (n L g : ℕ) (accepted : readOf bytes ≡ read.Counted n L g) where
-  guards-on : (k : ℕ) → Clocks (listing bytes .clocks) (roundsOf bytes k)
+  pub guards-on : (k : ℕ) → Clocks (listing bytes .clocks) (roundsOf bytes k)
   guards-on k = clocks-copies (listing bytes .clocks) (cycle (listing bytes)) k (legal-clocks (listing bytes) (accepted-written bytes h n L g accepted .legal))
 
   -- a plan is the plan of its record, and a loop leaves no run
-  planned : (k : ℕ) (before after : plan.Rooms) (P : ℕ) → plan.Answers bytes k before after (outcome.Found P)
+  pub planned : (k : ℕ) (before after : plan.Rooms) (P : ℕ) → plan.Answers bytes k before after (outcome.Found P)
       → Planned P (listing bytes .clocks) (roundsOf bytes k) anyStarts (plan.momentsIn (after .times)) (plan.startsIn (after .starts))
   planned k before after P a = go (plan.askingOf bytes k before) (a .answers)
     where
@@ -94,10 +90,11 @@ module _ (bytes : List ℕ) (h : Bytes bytes) (n L g : ℕ) (accepted : readOf b
   pub third : (r : Count) → rounds.Answers (readOf bytes) bytes r → Third bytes r
   third r answers =
       record {
-        exists = counts .runs;
+        exists = λ k. Iff·trans (counts .runs k) (allows-numbers r k);
         earliest = planned;
         given = λ k before after a asked m.
-            told r counts k before after a (subst (λ q. plan.Meets q (listing bytes .clocks) (roundsOf bytes k) before after a) asked (m .answers));
+            Iff·trans (Iff·symm (plan-numbers a)) (Iff·trans (told r counts k before after a (subst (λ q. plan.Meets q (listing bytes .clocks) (roundsOf bytes k) before after a) asked (m .answers)))
+            (allows-numbers r k));
       }
     where
       counts : rounds.Counts (listing bytes .clocks) (cycle (listing bytes)) r

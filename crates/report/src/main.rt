@@ -6,7 +6,7 @@ use libc::STDOUT_FILENO;
 fn main() {
     let mut input = [0u8; 4097];
     let size = io::read_full(STDIN_FILENO, &mut input);
-    let mut out = [0u8; 128];
+    let mut out = [0u8; 4096];
     let end = render::report(&input[..size], &mut out);
     io::write_all(STDOUT_FILENO, &out[..end]);
 }

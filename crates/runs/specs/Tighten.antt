@@ -10,10 +10,10 @@ use native.Mathlib.Decide.{decLt, ℕ-discrete}
 use Rattle.runs.specs.declared.Demand.{Demand}
 use Rattle.runs.specs.Loop.{Link, AsTight, Tightest}
 
-tight-refl : (e : Demand) → AsTight e e
+pub tight-refl : (e : Demand) → AsTight e e
 tight-refl e = inr (refl, λ h. h)
 
-tight-trans : (e d c : Demand) → AsTight e d → AsTight d c → AsTight e c
+pub tight-trans : (e d c : Demand) → AsTight e d → AsTight d c → AsTight e c
 tight-trans e d c (inl h) (inl k) = inl (omega arith)
 tight-trans e d c (inl h) (inr k) = inl (omega arith)
 tight-trans e d c (inr h) (inl k) = inl (omega arith)

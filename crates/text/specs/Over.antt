@@ -22,6 +22,17 @@ pub over-fits : (l : List ℕ) (at : ℕ) (text : List ℕ) → at + length text
 unfolding over
 over-fits l at text h = sets-eq text l at h
 
+-- a text written at the front that fits: it stands there whole, and all after it is kept
+pub written-front : {l m text : List ℕ} {end : ℕ} → Written l 0 text m end → end ≤ length l
+    → (end ≡ length text) × (m ≡ text ++ drop end l)
+written-front {l} {m} {text} {end} w h = (
+  size,
+  w .contents ∙ over-fits l 0 text (omega (arith, size)) ∙ ap (λ (n : ℕ). text ++ drop n l) (sym (w .place)),
+)
+  where
+    size : end ≡ length text
+    size = omega (arith, w .place)
+
 -- two texts joined are written one after the other
 pub over-append : (l : List ℕ) (at : ℕ) (xs ys : List ℕ)
     → over l at (xs ++ ys) ≡ over (over l at xs) (at + length xs) ys

@@ -1,25 +1,68 @@
--- The line is that of the answer to the question "read".
-use mathlib.Core.Path.{ap}
+-- No room; the line of a refusal; or the report on the table that is read.
 use borrow.Author.Needs.{needs}
-use Rattle.text.specs.Over.{written-as}
-use Rattle.render.specs.Lines.{lineOf, reportOf}
+use native.Mathlib.Omega.{arith}
+use mathlib.Core.Path.{sym, _∙_}
+use Rattle.render.specs.Whole.{reported-short, reported-table, reported-refused}
 use Rattle.render.proofs.report.Statement.{statement}
 use Rattle.render.proofs.report.Tie as tie
+
+returns : tie.Need-returns
+returns c = (reported-short _ (c .before .before .before .args .out .now) (omega arith), search needs)
 
 read-requires : tie.Need-read-requires
 read-requires c κs = search needs
 
-line-requires : tie.Need-line-requires
-line-requires c κs = search needs
+enum-known-answer : tie.Need-enum-known-answer
+enum-known-answer c = search needs
+
+put-table-requires : tie.Need-put-table-requires
+put-table-requires c κs =
+    let read = c .before .before .before .before .read .ensures in
+    (sym read ∙ c .before .before .answer .given .1, search needs)
+
+enum-known-answer-2 : tie.Need-enum-known-answer-2
+enum-known-answer-2 c = search needs
+
+number-requires : tie.Need-number-requires
+number-requires c κs = search needs
+
+put-refused-requires : tie.Need-put-refused-requires
+put-refused-requires c κs = search needs
 
 same-length : tie.Need-same-length
 same-length c = search needs
 
-returns : tie.Need-returns
-unfolding reportOf
-returns c =
-    let answered = ap lineOf (c .before .before .before .before .read .ensures) in
-    (written-as answered (c .before .before .line .ensures .0), search needs)
+returns-2 : tie.Need-returns-2
+returns-2 c =
+    let table = c .before .before .put-table .ensures in
+    let read = c .before .before .before .before .before .before .before in
+    let told = c .before .before .before .before .before .answer .given .1 in
+    (reported-table _ _ (search needs) (table .1) _ _ _ _ (read .read .ensures) told (table .0), search needs)
+
+same-length-2 : tie.Need-same-length-2
+same-length-2 c = search needs
+
+returns-3 : tie.Need-returns-3
+returns-3 c =
+    let refused = c .before .before in
+    let read = c .before .before .before .before .before .before .before .before in
+    let told = c .before .before .before .before .before .before .answer2 .given .1 in
+    let number = refused .before .number .ensures in
+    let line = refused .put-refused .ensures .0 in
+    (reported-refused _ _ (search needs) (search needs) _ _ _ (read .read .ensures) told number line, search needs)
 
 pub report-spec : {M : Type 1} → statement M
-report-spec = tie.close (tie.spec read-requires line-requires same-length returns)
+report-spec =
+    tie.close
+    (tie.spec
+    returns
+    read-requires
+    enum-known-answer
+    put-table-requires
+    enum-known-answer-2
+    number-requires
+    put-refused-requires
+    same-length
+    returns-2
+    same-length-2
+    returns-3)

@@ -1,0 +1,356 @@
+//! Times the proved library beside plain Rust, question by question.
+//!
+//! The two sides take turns in the same run, each turn a batch of calls; the median batch counts. Time is that of this thread
+//! on a processor, so that other work on the machine does not count. The answers of the two must agree.
+
+#[path = "../terminal/judge.rs"]
+mod judge;
+#[path = "../plain/plain.rs"]
+mod plain;
+
+use plain::entries;
+use std::hint::black_box;
+
+const UNDER: u8 = 0;
+const AT_MOST: u8 = 1;
+const EXACTLY: u8 = 2;
+const AT_LEAST: u8 = 3;
+const OVER: u8 = 4;
+
+fn guard(clock: u8, relation: u8, constant: u16) -> Vec<u8> {
+    let [low, high] = constant.to_le_bytes();
+    vec![2, clock, relation, low, high]
+}
+
+fn reset(clock: u8) -> Vec<u8> {
+    vec![3, clock]
+}
+
+/// A table of these steps, each its records one after the other.
+fn table(clocks: u8, steps: &[Vec<u8>]) -> Vec<u8> {
+    let mut bytes = vec![1, clocks];
+    for step in steps {
+        bytes.extend(step);
+        bytes.push(4);
+    }
+    bytes.push(5);
+    bytes
+}
+
+// Tables.
+
+const S1: &[u8] = include_bytes!("../samples/S1.table");
+const S2: &[u8] = include_bytes!("../samples/S2.table");
+const S10: &[u8] = include_bytes!("../samples/S10.table");
+const S11: &[u8] = include_bytes!("../samples/S11.table");
+
+/// 4,096 bytes: 64 guards, 15 steps, and resets.
+fn longest() -> Vec<u8> {
+    let guards: Vec<u8> = (0..64)
+        .flat_map(|i| guard(i % 6 + 1, AT_MOST, 4000))
+        .collect();
+    let resets: Vec<u8> = (0..1879).flat_map(|i| reset((i % 6) as u8 + 1)).collect();
+    let mut steps = vec![Vec::new(); 14];
+    steps.push([guards, resets].concat());
+    table(6, &steps)
+}
+
+/// Six clocks, sixteen steps, 64 guards, rounds without end: each step asks something of four clocks.
+fn largest() -> Vec<u8> {
+    let step = |i: u8| {
+        let clock = |j: u8| (i + j) % 6 + 1;
+        [
+            guard(clock(0), AT_LEAST, 1),
+            guard(clock(1), AT_MOST, 400),
+            guard(clock(2), OVER, 0),
+            guard(clock(3), UNDER, 500),
+            reset(clock(0)),
+        ]
+        .concat()
+    };
+    let steps: Vec<_> = (0..16).map(step).collect();
+    table(6, &steps)
+}
+
+/// The largest table, with a clock in place of another that is never reset and runs out: a count of rounds.
+fn largest_with_an_end() -> Vec<u8> {
+    let step = |i: u8| {
+        let clock = |j: u8| (i + j) % 5 + 1;
+        [
+            guard(clock(0), AT_LEAST, 1),
+            guard(clock(1), AT_MOST, 400),
+            guard(clock(2), OVER, 0),
+            guard(6, UNDER, 4000),
+            reset(clock(0)),
+        ]
+        .concat()
+    };
+    let steps: Vec<_> = (0..16).map(step).collect();
+    table(6, &steps)
+}
+
+/// A line as it may be: hook in, settle, weigh, label, scan out.
+fn line() -> Vec<u8> {
+    let steps = [
+        [guard(1, AT_LEAST, 20), reset(1), reset(2)].concat(),
+        guard(2, AT_LEAST, 5),
+        [guard(2, AT_MOST, 12), reset(3)].concat(),
+        [guard(3, AT_LEAST, 1), guard(3, UNDER, 8)].concat(),
+        [guard(1, AT_MOST, 40), guard(3, OVER, 2)].concat(),
+    ];
+    table(3, &steps)
+}
+
+/// One step with 64 guards, and every clock reset.
+fn crowded(relation: u8, constant: u16) -> Vec<u8> {
+    let guards: Vec<u8> = (0..64)
+        .flat_map(|i| guard(i % 6 + 1, relation, constant))
+        .collect();
+    let resets: Vec<u8> = (1..=6).flat_map(reset).collect();
+    table(6, &[[guards, resets].concat()])
+}
+
+/// Steps of which clocks up to `used` are a part, with more guards, up to 64, that every run of the plans here meets.
+fn filled(mut steps: Vec<Vec<u8>>, used: u8) -> Vec<u8> {
+    let counted = plain::read(&table(6, &steps)).unwrap();
+    let length = counted.steps;
+    for i in 0..64 - counted.guards {
+        let clock = (i / 2 / length % 6) as u8 + 1;
+        let (relation, constant) = [(AT_LEAST, 0), (AT_MOST, 4000)][i / length % 2];
+        steps[i % length].extend(guard(clock, relation, constant));
+    }
+    for step in &mut steps {
+        step.extend((used + 1..=6).flat_map(reset));
+    }
+    table(6, &steps)
+}
+
+/// The slowest for the library that a search over tables found, reduced to what matters. Rounds last exactly 11, and less from
+/// one second step to the next, so that the second steps come late at first and each a part sooner than the one before: a way
+/// back from the last round to the first.
+fn drifting() -> Vec<u8> {
+    let first = [guard(1, EXACTLY, 11), reset(1), reset(2)].concat();
+    let second = [guard(3, UNDER, 11), guard(2, AT_LEAST, 1), reset(3)].concat();
+    filled(vec![first, second], 3)
+}
+
+/// Half rounds of three steps. The third is late after the second of the half before, the first is late for the third, and the
+/// second is late after the first: ways forth and back in turn, from each half to the next. With an end, the third are all
+/// within so many ticks.
+fn zigzag(end: Option<u16>) -> Vec<u8> {
+    let half = |here: u8, before: u8| {
+        let third = [guard(1, AT_MOST, 1), guard(before, AT_LEAST, 3)].concat();
+        let within = end.map_or(vec![], |most| guard(4, AT_MOST, most));
+        [
+            reset(1),
+            [guard(1, AT_LEAST, 1), reset(here)].concat(),
+            [third, within].concat(),
+        ]
+    };
+    let steps = [half(2, 3), half(3, 2)].concat();
+    filled(steps, 4)
+}
+
+// Timing.
+
+#[repr(C)]
+struct Timespec {
+    seconds: i64,
+    nanoseconds: i64,
+}
+
+extern "C" {
+    fn clock_gettime(clock: i32, time: *mut Timespec) -> i32;
+}
+
+/// Nanoseconds that this thread has run.
+fn now() -> f64 {
+    const THREAD: i32 = 3;
+    let mut time = Timespec {
+        seconds: 0,
+        nanoseconds: 0,
+    };
+    assert_eq!(unsafe { clock_gettime(THREAD, &mut time) }, 0);
+    time.seconds as f64 * 1e9 + time.nanoseconds as f64
+}
+
+/// Median times of a call in nanoseconds, of the first and the second side.
+fn time(mut proved: impl FnMut(), mut plain: impl FnMut()) -> (f64, f64) {
+    let batch = |call: &mut dyn FnMut(), number: u32| {
+        let begin = now();
+        for _ in 0..number {
+            call();
+        }
+        (now() - begin) / f64::from(number)
+    };
+    // As many calls as take about half a millisecond, after some to warm up.
+    let number = |call: &mut dyn FnMut()| {
+        batch(call, 3);
+        let once = batch(call, 3).max(1.0);
+        let number = (500_000.0 / once).clamp(1.0, 20_000.0) as u32;
+        batch(call, number);
+        number
+    };
+    let numbers = (number(&mut proved), number(&mut plain));
+    let slow = batch(&mut proved, 1) > 5_000_000.0;
+    let turns = if slow { 21 } else { 201 };
+    let (mut first, mut second) = (Vec::new(), Vec::new());
+    for _ in 0..turns {
+        first.push(batch(&mut proved, numbers.0));
+        second.push(batch(&mut plain, numbers.1));
+    }
+    let median = |times: &mut Vec<f64>| {
+        times.sort_by(f64::total_cmp);
+        times[times.len() / 2]
+    };
+    (median(&mut first), median(&mut second))
+}
+
+fn show(question: &str, times: (f64, f64)) {
+    let (proved, plain) = times;
+    println!(
+        "{question:<64} {proved:>12.0} {plain:>12.0} {:>7.2}",
+        proved / plain
+    );
+}
+
+fn bench_read(name: &str, bytes: &[u8]) {
+    let (mut a, mut b) = ([9; 4], [9; 4]);
+    assert!(judge::read(bytes, &mut a) && entries::read(bytes, &mut b));
+    assert_eq!(a, b);
+    assert_eq!(a[0], 0);
+    let times = time(
+        || assert!(judge::read(black_box(bytes), black_box(&mut a))),
+        || assert!(entries::read(black_box(bytes), black_box(&mut b))),
+    );
+    show(&format!("read, {name}"), times);
+}
+
+fn bench_rounds(name: &str, bytes: &[u8]) {
+    let (mut a, mut b) = ([9; 4], [9; 4]);
+    assert!(judge::rounds(bytes, &mut a) && entries::rounds(bytes, &mut b));
+    assert_eq!(a, b);
+    assert_eq!(a[0], 0);
+    let answer = match a[1] {
+        0 => format!("{}", a[2]),
+        _ => "without end".into(),
+    };
+    let times = time(
+        || assert!(judge::rounds(black_box(bytes), black_box(&mut a))),
+        || assert!(entries::rounds(black_box(bytes), black_box(&mut b))),
+    );
+    show(&format!("rounds, {name}: {answer}"), times);
+}
+
+/// Rooms that serve every plan.
+struct Rooms {
+    times: Vec<u64>,
+    starts: Vec<u64>,
+    room: Vec<u64>,
+    answer: [u64; 4],
+}
+
+type Plan = fn(&[u8], u64, &mut [u64], &mut [u64], &mut [u64], &mut [u64]) -> bool;
+
+impl Rooms {
+    fn new() -> Rooms {
+        Rooms {
+            times: vec![9; 1024],
+            starts: vec![9; 6],
+            room: vec![9; 1031],
+            answer: [9; 4],
+        }
+    }
+
+    fn ask(&mut self, plan: Plan, bytes: &[u8], k: u64) {
+        let (times, starts, room) = (&mut self.times, &mut self.starts, &mut self.room);
+        assert!(plan(
+            black_box(bytes),
+            black_box(k),
+            times,
+            starts,
+            room,
+            &mut self.answer
+        ));
+        black_box(self);
+    }
+}
+
+fn bench_plan(name: &str, bytes: &[u8], k: u64) {
+    let (mut a, mut b) = (Rooms::new(), Rooms::new());
+    a.ask(judge::plan, bytes, k);
+    b.ask(entries::plan, bytes, k);
+    assert_eq!((&a.times, &a.starts), (&b.times, &b.starts));
+    assert_eq!(a.answer[..2], b.answer[..2]);
+    assert_eq!(a.answer[0], 0);
+    let looped = a.answer[1] == 1;
+    assert!(looped || a.answer == b.answer);
+    let times = time(
+        || a.ask(judge::plan, bytes, k),
+        || b.ask(entries::plan, bytes, k),
+    );
+    show(
+        &format!("plan, {name}{}", if looped { ", a loop" } else { "" }),
+        times,
+    );
+}
+
+fn bench_demands(name: &str, bytes: &[u8], k: u64) {
+    let (mut row_a, mut row_b) = (vec![9; 4 * 132_102], vec![9; 4 * 132_102]);
+    let (mut a, mut b) = ([9; 4], [9; 4]);
+    assert!(judge::demands(bytes, k, &mut row_a, &mut a));
+    assert!(entries::demands(bytes, k, &mut row_b, &mut b));
+    assert_eq!((a, &row_a), (b, &row_b));
+    assert_eq!(a[0], 0);
+    let number = a[1];
+    let times = time(
+        || {
+            assert!(judge::demands(
+                black_box(bytes),
+                k,
+                black_box(&mut row_a),
+                &mut a
+            ))
+        },
+        || {
+            assert!(entries::demands(
+                black_box(bytes),
+                k,
+                black_box(&mut row_b),
+                &mut b
+            ))
+        },
+    );
+    show(&format!("demands, {name}: {number}"), times);
+}
+
+fn main() {
+    println!(
+        "{:<64} {:>12} {:>12} {:>7}",
+        "question", "proved ns", "plain ns", "ratio"
+    );
+    bench_read("S1, 11 bytes", S1);
+    bench_read("4,096 bytes", &longest());
+    bench_rounds("S2", S2);
+    bench_rounds("S11", S11);
+    bench_rounds("6 clocks, 16 steps, 64 guards", &largest());
+    bench_rounds("6 clocks, 16 steps, 64 guards", &largest_with_an_end());
+    bench_plan("S10 for 2", S10, 2);
+    bench_plan("5 steps for 10", &line(), 10);
+    bench_plan("S1 for 1,024", S1, 1024);
+    bench_plan(
+        "1 step, 64 exact guards, for 1,024",
+        &crowded(EXACTLY, 3),
+        1024,
+    );
+    bench_plan("1 step, 64 guards, for 1,024", &crowded(AT_LEAST, 3), 1024);
+    bench_plan("2 steps, 64 guards, for 512: drifting", &drifting(), 512);
+    bench_plan("6 steps, 64 guards, for 170: zigzag", &zigzag(None), 170);
+    bench_plan(
+        "6 steps, 64 guards, for 170: zigzag",
+        &zigzag(Some(1000)),
+        170,
+    );
+    bench_demands("S10 for 2", S10, 2);
+    bench_demands("the largest row", &crowded(EXACTLY, 3), 1024);
+}

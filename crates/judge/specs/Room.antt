@@ -1,0 +1,49 @@
+-- What the entries leave in the rooms lent to them.
+use mathlib.Core.Path.{_≡_}
+use mathlib.Core.Bool.{Bool, true, false, cond}
+use mathlib.Core.List.{List, _++_}
+use Prim.Native.Nat.{ℕ}
+use lib.Dec.{leb}
+use lib.IntN.{ℤ}
+use lib.ListN.{length, drop}
+use Rattle.wire.specs.Reading.{readOf}
+use Rattle.rounds.specs.declared.Count.{Count}
+use Rattle.rounds.specs.Answer as rounds
+use Rattle.plan.specs.declared.Outcome.{Outcome}
+use Rattle.plan.specs.Answer as plan
+use Rattle.demands.specs.Listed.{rowOf, rowRoom}
+use Rattle.judge.specs.Numbers.{countNumbers, planNumbers}
+
+-- whether an answer room has the four places for an answer
+abbrev pub roomy : List ℕ → Bool
+roomy room = leb 4 (length room)
+
+-- the answer room at exit: four numbers, and then the rest as it was; or all of it as it was, where it is short
+unfoldable pub answered : List ℕ → List ℕ → List ℕ
+answered room numbers = cond (roomy room) (numbers ++ drop 4 room) room
+
+-- the demands' row at exit, which is kept where the answer room is short
+unfoldable pub listedRow : List ℕ → List ℕ → ℕ → List ℤ → List ℤ
+listedRow room bytes k row = cond (roomy room) (rowOf bytes k (rowRoom row) row) row
+
+-- The answer room before and after the question "rounds": the numbers of the count of these bytes.
+pub record RoundsAnswered (bytes room room′ : List ℕ) : Type 0 where
+  pub count : Count
+  pub answers : rounds.Answers (readOf bytes) bytes count
+  pub numbers : room′ ≡ answered room (countNumbers count)
+
+-- The same where it may be short, and then nothing changes.
+abbrev pub RoundsTold : Bool → List ℕ → List ℕ → List ℕ → Type 0
+RoundsTold true bytes room room′ = RoundsAnswered bytes room room′
+RoundsTold false bytes room room′ = room′ ≡ room
+
+-- The rooms before and after the question "plan for k": an answer of these bytes, and its numbers.
+pub record PlanAnswered (bytes : List ℕ) (k : ℕ) (r r′ : plan.Rooms) (room room′ : List ℕ) : Type 0 where
+  pub outcome : Outcome
+  pub answers : plan.Answers bytes k r r′ outcome
+  pub numbers : room′ ≡ answered room (planNumbers outcome)
+
+-- The same where the answer room may be short, and then nothing changes.
+abbrev pub PlanTold : Bool → List ℕ → ℕ → plan.Rooms → plan.Rooms → List ℕ → List ℕ → Type 0
+PlanTold true bytes k r r′ room room′ = PlanAnswered bytes k r r′ room room′
+PlanTold false bytes k r r′ room room′ = (r′ ≡ r) × (room′ ≡ room)

@@ -1,0 +1,69 @@
+-- The report on a table's bytes.
+use mathlib.Core.Path.{_≡_}
+use mathlib.Core.Bool.{cond}
+use mathlib.Core.List.{List, [], _++_}
+use Prim.Native.Nat.{ℕ, zero, suc, _+_, _*_, _≤_, _<_}
+use lib.Dec.{ltb}
+use lib.ListN.{length, drop}
+use Rattle.table.specs.declared.Read.{Read}
+use Rattle.table.specs.declared.Read.the-variants as read
+use Rattle.wire.specs.Reading.{readOf}
+use Rattle.wire.specs.Listing.{listing, cycle}
+use Rattle.runs.specs.Run.{copies}
+use Rattle.runs.specs.Demand.{anyStarts}
+use Rattle.rounds.specs.declared.Count.{Count}
+use Rattle.rounds.specs.declared.Count.the-variants.{Finite, Endless, Refused}
+use Rattle.rounds.specs.Answer.{Counts}
+use Rattle.plan.specs.Planned.{Planned}
+use Rattle.render.specs.Lines.{countedLine, refusalLine, countLine, planLines}
+
+-- How many rounds are planned: 2, or as many as the count where it is smaller.
+unfoldable pub plannedOf : Count → ℕ
+plannedOf (Finite c) = cond (ltb c 2) c 2
+plannedOf Endless = 2
+plannedOf (Refused f) = 0
+
+-- the lines after the second: those of the plan of k rounds, if there are rounds to plan
+unfoldable pub restLines : ℕ → ℕ → ℕ → (ℕ → ℕ) → (ℕ → ℕ) → List ℕ
+restLines n L zero t s = []
+restLines n L (suc k) t s = planLines (suc k * L + n + 1) n L (suc k * L) t s
+
+-- The report on a table with n clocks, L steps and g guards, the count r, and the moments t and starts s of the plan.
+unfoldable pub reportOf : ℕ → ℕ → ℕ → Count → (ℕ → ℕ) → (ℕ → ℕ) → List ℕ
+reportOf n L g r t s = countedLine n L g ++ countLine r ++ restLines n L (plannedOf r) t s
+
+-- t and s are the plan, in kL + n + 1 parts to a tick, of k rounds of the table that the bytes write down
+abbrev pub PlannedIn : List ℕ → ℕ → ℕ → ℕ → (ℕ → ℕ) → (ℕ → ℕ) → Type 0
+PlannedIn bytes n L k t s = Planned (k * L + n + 1) n (copies (cycle (listing bytes)) k) anyStarts t s
+
+-- A text reports on accepted bytes, with n clocks, L steps and g guards: the count is that of the table they write down,
+-- and where rounds are planned the moments and starts are their plan.
+pub record Tells (bytes : List ℕ) (n L g : ℕ) (text : List ℕ) : Type 0 where
+  pub count : Count
+  pub moments : ℕ → ℕ
+  pub starts : ℕ → ℕ
+  pub counts : Counts (listing bytes .clocks) (cycle (listing bytes)) count
+  pub planned : 1 ≤ plannedOf count → PlannedIn bytes n L (plannedOf count) moments starts
+  pub lines : text ≡ reportOf n L g count moments starts
+
+-- the same for any bytes, by the answer to the question "read"
+abbrev pub TellsOf : Read → List ℕ → List ℕ → Type 0
+TellsOf (read.Refused f) bytes text = text ≡ refusalLine f
+TellsOf (read.Counted n L g) bytes text = Tells bytes n L g text
+
+-- A text is the report on a table's bytes. There is only one (`report-unique`).
+pub record Reports (bytes text : List ℕ) : Type 0 where
+  pub reports : TellsOf (readOf bytes) bytes text
+
+-- ---- what the entry does with the room lent to it
+-- the report stands in the first places, as many as `end`, and the others are kept
+pub record Stands (bytes before after : List ℕ) (end : ℕ) : Type 0 where
+  pub text : List ℕ
+  pub reports : Reports bytes text
+  pub size : end ≡ length text
+  pub contents : after ≡ text ++ drop end before
+
+-- A room under 4,096 places is not touched; else the report stands there.
+pub record Reported (bytes before after : List ℕ) (end : ℕ) : Type 0 where
+  pub short : length before < 4096 → (after ≡ before) × (end ≡ 0)
+  pub stands : 4096 ≤ length before → Stands bytes before after end

@@ -1,0 +1,59 @@
+-- The plans and loops of the samples follow from the definitions.
+use mathlib.Core.Path.{_≡_, refl}
+use mathlib.Core.Bool.{Bool, true, _&&_}
+use mathlib.Core.List.{List, List·Memᴰ}
+use Prim.Native.Nat.{ℕ, _+_, _*_}
+use lib.Dec.{eqb}
+use lib.ListN.{length}
+use borrow.Author.Tests.{eqb-true}
+use Rattle.table.specs.Step.{Step}
+use Rattle.wire.specs.Records.{recordsFrom}
+use Rattle.wire.specs.Listing.{listing, stepsIn, stepOf, guardsOf, flagged}
+use Rattle.runs.specs.Run.{copies, zeroed}
+use Rattle.runs.specs.Demand.{anyStarts, demands, stepsDemands, guardsDemands, startDemands}
+use Rattle.runs.specs.Tools.{top, Every}
+use Rattle.plan.specs.Answer.{momentsIn, startsIn}
+use Rattle.samples.specs.Samples.{Plan, Sample, samples}
+use Rattle.samples.specs.Samples as said
+use Rattle.samples.specs.Follows.{clocksOf, stepsOf, PlanHolds}
+use Rattle.samples.specs.Checks.{both, all, all-every, some, below}
+use Rattle.samples.specs.Tight.{held}
+use Rattle.samples.specs.PlanTest.{isPlan, plan-sound}
+use Rattle.samples.specs.LoopTest.{apart, gains, isLoop, loop-sound}
+
+-- the test of what is said of "plan for k"
+abbrev test : ℕ → List Step → Plan → Bool
+test n τ (said.planned k P moments starts) =
+    eqb (length moments) (k * length τ)
+    && (eqb (length starts) n
+    && (eqb P (k * length τ + n + 1)
+    && isPlan P n (copies τ k) (momentsIn moments) (startsIn starts)))
+test n τ (said.looped k row bounds) = isLoop (demands n (copies τ k) anyStarts) row bounds
+
+test-holds : (n : ℕ) (τ : List Step) (p : Plan) → test n τ p ≡ true → PlanHolds n τ p
+test-holds n τ (said.planned k P moments starts) e =
+    let (steps, e1) = both e in
+    let (clocks, e2) = both e1 in
+    let (parts, plan) = both e2 in
+    record {
+      steps = eqb-true _ _ steps;
+      clocks = eqb-true _ _ clocks;
+      parts = eqb-true _ _ parts;
+      planned = plan-sound P n (copies τ k) (momentsIn moments) (startsIn starts) plan;
+    }
+test-holds n τ (said.looped k row bounds) e = loop-sound (demands n (copies τ k) anyStarts) row bounds e
+
+-- the test of all plans and loops of a sample
+abbrev tested : Sample → Bool
+tested s = all (test (clocksOf (s .bytes)) (stepsOf (s .bytes))) (s .plans)
+
+-- the whole list passes, by computation
+pass : all tested samples ≡ true
+unfolding samples recordsFrom listing stepsIn stepOf guardsOf flagged copies zeroed
+    anyStarts demands stepsDemands guardsDemands startDemands
+    top all some below held isPlan apart gains isLoop
+pass = refl
+
+-- The plans and loops that 01 gives are plans and loops.
+pub planned : (s : Sample) → List·Memᴰ s samples → Every (PlanHolds (clocksOf (s .bytes)) (stepsOf (s .bytes))) (s .plans)
+planned s m p i = test-holds _ _ p (all-every _ (s .plans) (all-every tested samples pass s m) p i)

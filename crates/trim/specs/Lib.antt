@@ -1,0 +1,9 @@
+pub mod Sides
+pub mod Trimmed
+pub mod Covers
+pub mod Keys
+pub mod Guards
+pub mod Rounds
+pub mod Runs
+pub mod Grows
+pub mod Trims

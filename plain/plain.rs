@@ -1,0 +1,746 @@
+//! The four questions about a timing table, in plain Rust and with no proofs. The proved library is compared with it, in what
+//! it answers (terminal/compare.rs) and in how long it takes (bench/bench.rs).
+//!
+//! A clock is 01's timer, a guard its bound, a reset its zeroing. Clocks are numbered from 1, as on the wire.
+
+/// The most bytes of a table.
+pub const LONGEST: usize = 4096;
+/// The most clocks of a table.
+pub const CLOCKS: usize = 6;
+/// The most steps of a round.
+pub const STEPS: usize = 16;
+/// The most guards of a table.
+pub const GUARDS: usize = 64;
+/// The largest constant of a guard.
+pub const CONSTANT: u16 = 4000;
+/// The most steps of all rounds of a plan.
+pub const TOTAL: usize = 1024;
+
+/// Why a question is refused, with 01's number.
+#[derive(Clone, Copy, Debug, PartialEq, Eq)]
+pub enum Fault {
+    Length = 1,
+    Cut,
+    Kind,
+    Head,
+    Bounds,
+    Timer,
+    Relation,
+    Constant,
+    Steps,
+    Tail,
+    Rounds,
+    Times,
+    Starts,
+    Loop,
+    List,
+}
+
+/// A fault and the place of the byte that it is found at, or 0.
+#[derive(Clone, Copy, Debug, PartialEq, Eq)]
+pub struct Refusal {
+    pub fault: Fault,
+    pub place: usize,
+}
+
+/// How a guard compares its clock's reading with its constant.
+#[derive(Clone, Copy, Debug, PartialEq, Eq)]
+pub enum Relation {
+    Under,
+    AtMost,
+    Exactly,
+    AtLeast,
+    Over,
+}
+
+/// What a step asks of a clock's reading.
+#[derive(Clone, Copy, Debug, PartialEq, Eq)]
+pub struct Guard {
+    pub clock: u8,
+    pub relation: Relation,
+    pub constant: u16,
+}
+
+/// What a table has, counted.
+#[derive(Clone, Copy, Debug, Default, PartialEq, Eq)]
+pub struct Counted {
+    pub clocks: usize,
+    pub steps: usize,
+    pub guards: usize,
+}
+
+/// The answer to "rounds".
+#[derive(Clone, Copy, Debug, PartialEq, Eq)]
+pub enum Rounds {
+    Count(u64),
+    WithoutEnd,
+}
+
+/// The answer to "plan": the parts to a tick, or the length of a loop.
+#[derive(Clone, Copy, Debug, PartialEq, Eq)]
+pub enum Plan {
+    Found { parts: u64 },
+    Loop { length: usize },
+}
+
+/// "Read": the clocks, steps and guards of a table.
+pub fn read(bytes: &[u8]) -> Result<Counted, Refusal> {
+    let mut records = Records::of(bytes)?;
+    while !matches!(records.next()?, Record::End) {}
+    Ok(records.counted)
+}
+
+/// "Rounds": how many rounds a table allows.
+pub fn rounds(bytes: &[u8]) -> Result<Rounds, Refusal> {
+    Ok(count(&Table::parse(bytes)?))
+}
+
+/// "Plan for k": the earliest moments in the first places of `times` and their smallest starts in those of `starts`; or a loop
+/// in those of `room`.
+pub fn plan(
+    bytes: &[u8],
+    k: u64,
+    times: &mut [u64],
+    starts: &mut [u64],
+    room: &mut [u64],
+) -> Result<Plan, Refusal> {
+    let table = Table::parse(bytes)?;
+    let total = table.total(k)?;
+    let parts = total + table.clocks + 1;
+    let refuse = |fault| Err(Refusal { fault, place: 0 });
+    if times.len() < total {
+        return refuse(Fault::Times);
+    }
+    if starts.len() < table.clocks {
+        return refuse(Fault::Starts);
+    }
+    if room.len() < parts {
+        return refuse(Fault::Loop);
+    }
+    let edges = Edges::of(&table, total);
+    match solve(&edges, total, parts) {
+        Ok(time) => {
+            for (place, &t) in times.iter_mut().zip(&time[1..=total]) {
+                *place = t as u64;
+            }
+            let least = edges.least_starts(&time, total);
+            for (place, &s) in starts.iter_mut().zip(&least[..table.clocks]) {
+                *place = s as u64;
+            }
+            let parts = parts as u64;
+            Ok(Plan::Found { parts })
+        }
+        Err(cycle) => {
+            for (place, &vertex) in room.iter_mut().zip(&cycle) {
+                *place = u64::from(vertex);
+            }
+            let length = cycle.len();
+            Ok(Plan::Loop { length })
+        }
+    }
+}
+
+/// "Demands for k": their number, with four numbers for each (from, to, bound, strict) in the first places of `row`.
+pub fn demands(bytes: &[u8], k: u64, row: &mut [i64]) -> Result<usize, Refusal> {
+    let table = Table::parse(bytes)?;
+    let total = table.total(k)?;
+    let exact = |g: &&Guard| g.relation == Relation::Exactly;
+    let all = table.guards[..table.ends[table.steps]].iter();
+    let number =
+        total / table.steps * (table.steps + all.len() + all.filter(exact).count()) + table.clocks;
+    if row.len() < 4 * number {
+        return Err(Refusal {
+            fault: Fault::List,
+            place: 0,
+        });
+    }
+    let mut places = row.chunks_exact_mut(4);
+    let mut put = |from: usize, to: usize, bound: i64, strict: bool| {
+        if let Some(place) = places.next() {
+            place.copy_from_slice(&[from as i64, to as i64, bound, i64::from(strict)]);
+        }
+    };
+    let mut last = resets_before(total);
+    for (i, step) in (1..=total).zip((0..table.steps).cycle()) {
+        put(i, i - 1, 0, false);
+        for g in table.guards_of(step) {
+            let (z, c) = (last[usize::from(g.clock)], i64::from(g.constant));
+            match g.relation {
+                Relation::Under => put(z, i, c, true),
+                Relation::AtMost => put(z, i, c, false),
+                Relation::Exactly => {
+                    put(z, i, c, false);
+                    put(i, z, -c, false);
+                }
+                Relation::AtLeast => put(i, z, -c, false),
+                Relation::Over => put(i, z, -c, true),
+            }
+        }
+        table.reset(step, i, &mut last);
+    }
+    for j in 1..=table.clocks {
+        put(0, total + j, 0, false);
+    }
+    Ok(number)
+}
+
+// Reading.
+
+/// A record of a table.
+enum Record {
+    Head,
+    Guard(Guard),
+    Reset(u8),
+    Step,
+    End,
+}
+
+/// The records of a table, from the left, each with 01's tests.
+struct Records<'a> {
+    bytes: &'a [u8],
+    at: usize,
+    counted: Counted,
+    /// Whether a guard or reset stands since the last finished step.
+    open: bool,
+}
+
+impl<'a> Records<'a> {
+    fn of(bytes: &'a [u8]) -> Result<Self, Refusal> {
+        if bytes.len() > LONGEST {
+            return Err(Refusal {
+                fault: Fault::Length,
+                place: LONGEST,
+            });
+        }
+        Ok(Records {
+            bytes,
+            at: 0,
+            counted: Counted::default(),
+            open: false,
+        })
+    }
+
+    fn next(&mut self) -> Result<Record, Refusal> {
+        let place = self.at;
+        let refuse = |fault| Err(Refusal { fault, place });
+        match self.bytes[place..] {
+            [] => refuse(Fault::Cut),
+            [0 | 6.., ..] => refuse(Fault::Kind),
+            [kind, ..] if (kind == 1) != (place == 0) => refuse(Fault::Head),
+            [1, clocks, ..] => {
+                if !(1..=CLOCKS).contains(&usize::from(clocks)) {
+                    return refuse(Fault::Head);
+                }
+                self.counted.clocks = usize::from(clocks);
+                self.at += 2;
+                Ok(Record::Head)
+            }
+            [2, clock, relation, low, high, ..] => {
+                let constant = u16::from_le_bytes([low, high]);
+                if self.counted.guards == GUARDS {
+                    return refuse(Fault::Bounds);
+                }
+                if !self.has(clock) {
+                    return refuse(Fault::Timer);
+                }
+                let Some(relation) = relation_of(relation) else {
+                    return refuse(Fault::Relation);
+                };
+                if constant > CONSTANT {
+                    return refuse(Fault::Constant);
+                }
+                self.counted.guards += 1;
+                self.open = true;
+                self.at += 5;
+                Ok(Record::Guard(Guard {
+                    clock,
+                    relation,
+                    constant,
+                }))
+            }
+            [3, clock, ..] => {
+                if !self.has(clock) {
+                    return refuse(Fault::Timer);
+                }
+                self.open = true;
+                self.at += 2;
+                Ok(Record::Reset(clock))
+            }
+            [4, ..] => {
+                if self.counted.steps == STEPS {
+                    return refuse(Fault::Steps);
+                }
+                self.counted.steps += 1;
+                self.open = false;
+                self.at += 1;
+                Ok(Record::Step)
+            }
+            [5, ref tail @ ..] => {
+                if self.counted.steps == 0 || self.open {
+                    return refuse(Fault::Steps);
+                }
+                if !tail.is_empty() {
+                    return Err(Refusal {
+                        fault: Fault::Tail,
+                        place: place + 1,
+                    });
+                }
+                Ok(Record::End)
+            }
+            _ => refuse(Fault::Cut),
+        }
+    }
+
+    fn has(&self, clock: u8) -> bool {
+        (1..=self.counted.clocks).contains(&usize::from(clock))
+    }
+}
+
+fn relation_of(byte: u8) -> Option<Relation> {
+    match byte {
+        0 => Some(Relation::Under),
+        1 => Some(Relation::AtMost),
+        2 => Some(Relation::Exactly),
+        3 => Some(Relation::AtLeast),
+        4 => Some(Relation::Over),
+        _ => None,
+    }
+}
+
+/// For each clock by its number, the moment of its last reset.
+type Resets = [usize; CLOCKS + 1];
+
+/// The last resets before the start of a plan of so many steps.
+fn resets_before(total: usize) -> Resets {
+    std::array::from_fn(|j| total + j)
+}
+
+/// A legal table.
+struct Table {
+    clocks: usize,
+    steps: usize,
+    guards: [Guard; GUARDS],
+    /// Step i has the guards from place `ends[i]` up to place `ends[i + 1]`.
+    ends: [usize; STEPS + 1],
+    /// The clocks that each step resets, as bits.
+    resets: [u8; STEPS],
+}
+
+impl Table {
+    fn parse(bytes: &[u8]) -> Result<Table, Refusal> {
+        let none = Guard {
+            clock: 0,
+            relation: Relation::Under,
+            constant: 0,
+        };
+        let (mut guards, mut ends, mut resets) = ([none; GUARDS], [0; STEPS + 1], [0; STEPS]);
+        let mut open = 0;
+        let mut records = Records::of(bytes)?;
+        loop {
+            let record = records.next()?;
+            let Counted {
+                clocks,
+                steps,
+                guards: number,
+            } = records.counted;
+            match record {
+                Record::Head => {}
+                Record::Guard(guard) => guards[number - 1] = guard,
+                Record::Reset(clock) => open |= 1 << clock,
+                Record::Step => {
+                    ends[steps] = number;
+                    resets[steps - 1] = std::mem::take(&mut open);
+                }
+                Record::End => {
+                    return Ok(Table {
+                        clocks,
+                        steps,
+                        guards,
+                        ends,
+                        resets,
+                    });
+                }
+            }
+        }
+    }
+
+    /// The steps of k rounds.
+    fn total(&self, k: u64) -> Result<usize, Refusal> {
+        let total = usize::try_from(k)
+            .ok()
+            .and_then(|k| k.checked_mul(self.steps));
+        total.filter(|t| (1..=TOTAL).contains(t)).ok_or(Refusal {
+            fault: Fault::Rounds,
+            place: 0,
+        })
+    }
+
+    fn guards_of(&self, step: usize) -> &[Guard] {
+        &self.guards[self.ends[step]..self.ends[step + 1]]
+    }
+
+    /// The resets of a step take place at a moment.
+    fn reset(&self, step: usize, moment: usize, last: &mut Resets) {
+        for j in 1..=self.clocks {
+            if self.resets[step] >> j & 1 == 1 {
+                last[j] = moment;
+            }
+        }
+    }
+}
+
+// Planning: the longest paths of the demands, in parts.
+
+/// A demand in parts: time(from) >= time(to) + weight.
+#[derive(Clone, Copy)]
+struct Edge {
+    from: u16,
+    to: u16,
+    weight: i32,
+}
+
+/// The tightest demands of a plan: in each step one of each clock and side. In the order of the moments, with the last resets
+/// before the start first, those of `forth` raise a later moment after an earlier one, and those of `back` an earlier one after
+/// a later one. Both stand in the order of the later moment.
+struct Edges {
+    forth: Vec<Edge>,
+    back: Vec<Edge>,
+}
+
+impl Edges {
+    fn of(table: &Table, total: usize) -> Edges {
+        let edge = |from: usize, to: usize, weight: i32| Edge {
+            from: from as u16,
+            to: to as u16,
+            weight,
+        };
+        let parts = (total + table.clocks + 1) as i32;
+        let mut tight = [Tight::default(); STEPS];
+        for (step, tight) in tight[..table.steps].iter_mut().enumerate() {
+            *tight = tightest(table.guards_of(step), parts);
+        }
+        let mut forth = Vec::with_capacity(2 * (total + table.clocks));
+        let mut back = Vec::with_capacity(total);
+        forth.extend((1..=table.clocks).map(|j| edge(0, total + j, 0)));
+        let mut last = resets_before(total);
+        for (i, step) in (1..=total).zip((0..table.steps).cycle()) {
+            forth.push(edge(i, i - 1, 0));
+            for j in 1..=table.clocks {
+                forth.extend(tight[step].least[j].map(|w| edge(i, last[j], w)));
+                back.extend(tight[step].most[j].map(|w| edge(last[j], i, -w)));
+            }
+            table.reset(step, i, &mut last);
+        }
+        Edges { forth, back }
+    }
+
+    /// The smallest starts of the clocks for the times of the moments.
+    fn least_starts(&self, time: &[i64], total: usize) -> [i64; CLOCKS] {
+        let mut least = [0; CLOCKS];
+        for edge in &self.forth {
+            if let Some(j) = usize::from(edge.to).checked_sub(total + 1) {
+                least[j] = least[j].max(i64::from(edge.weight) - time[usize::from(edge.from)]);
+            }
+        }
+        least
+    }
+}
+
+/// For each clock by its number, the least and the most that a step's guards let it read, in parts.
+#[derive(Clone, Copy, Default)]
+struct Tight {
+    least: [Option<i32>; CLOCKS + 1],
+    most: [Option<i32>; CLOCKS + 1],
+}
+
+fn tightest(guards: &[Guard], parts: i32) -> Tight {
+    let mut tight = Tight::default();
+    for guard in guards {
+        let (j, c) = (usize::from(guard.clock), i32::from(guard.constant) * parts);
+        let (least, most) = match guard.relation {
+            Relation::Under => (None, Some(c - 1)),
+            Relation::AtMost => (None, Some(c)),
+            Relation::Exactly => (Some(c), Some(c)),
+            Relation::AtLeast => (Some(c), None),
+            Relation::Over => (Some(c + 1), None),
+        };
+        // None is below every number, and so not the least of two.
+        tight.least[j] = tight.least[j].max(least);
+        tight.most[j] = tight.most[j].into_iter().chain(most).min();
+    }
+    tight
+}
+
+/// The time of a last reset before the start that nothing bounds from below: below all that can be.
+const UNREACHED: i64 = i64::MIN / 2;
+
+/// The parent of a vertex that was not raised.
+const NO_PARENT: u16 = u16::MAX;
+
+/// The least times that meet the edges, with the start at 0; or a cycle of edges that contradict each other. Passes go forth
+/// and back (Yen's order): each leaves its own edges met, so that one that raises nothing is the last. Or else the parents
+/// close a cycle.
+fn solve(edges: &Edges, total: usize, vertices: usize) -> Result<Vec<i64>, Vec<u16>> {
+    let mut time = vec![UNREACHED; vertices];
+    time[..=total].fill(0);
+    let mut parent = vec![NO_PARENT; vertices];
+    let mut marks = vec![0; vertices];
+    pass(edges.forth.iter(), &mut time, &mut parent);
+    while pass(edges.back.iter().rev(), &mut time, &mut parent)
+        && pass(edges.forth.iter(), &mut time, &mut parent)
+    {
+        if let Some(vertex) = on_cycle(&parent, &mut marks) {
+            let next = |&v: &u16| Some(parent[usize::from(v)]).filter(|&u| u != vertex);
+            return Err(std::iter::successors(Some(vertex), next).collect());
+        }
+    }
+    Ok(time)
+}
+
+/// Raises times as edges in turn demand; whether one was raised.
+fn pass<'a>(edges: impl Iterator<Item = &'a Edge>, time: &mut [i64], parent: &mut [u16]) -> bool {
+    let mut raised = false;
+    for edge in edges {
+        let least = time[usize::from(edge.to)] + i64::from(edge.weight);
+        let from = usize::from(edge.from);
+        if time[from] < least {
+            time[from] = least;
+            parent[from] = edge.to;
+            raised = true;
+        }
+    }
+    raised
+}
+
+/// A vertex on a cycle of parents. Each walk leaves its own marks and stops at any.
+fn on_cycle(parent: &[u16], marks: &mut [u16]) -> Option<u16> {
+    marks.fill(0);
+    for (start, walk) in (0..parent.len()).zip(1..) {
+        let mut vertex = start;
+        while marks[vertex] == 0 && parent[vertex] != NO_PARENT {
+            marks[vertex] = walk;
+            vertex = usize::from(parent[vertex]);
+        }
+        if marks[vertex] == walk {
+            return Some(vertex as u16);
+        }
+    }
+    None
+}
+
+// Counting: the effects of rounds as difference bound matrices.
+
+/// A bound on a difference, in ticks: 2 d + 1 for "at most d", 2 d for "under d". The smaller is the tighter.
+type Bound = i64;
+
+const NONE: Bound = Bound::MAX;
+const ZERO: Bound = 1;
+
+fn at_most(d: i64) -> Bound {
+    2 * d + 1
+}
+
+fn under(d: i64) -> Bound {
+    2 * d
+}
+
+/// The bound on a sum of differences: strict where one of the two is.
+fn sum(a: Bound, b: Bound) -> Bound {
+    if a == NONE || b == NONE {
+        NONE
+    } else {
+        a + b - ((a | b) & 1)
+    }
+}
+
+/// The vertices of one configuration: now, and the last reset of each clock.
+const SIDE: usize = CLOCKS + 1;
+
+/// What some steps do, as the tightest bounds between the configuration before them (the first `side` vertices) and the one
+/// after them (the next `side`): `bounds[a][b]` is on the time at b less the time at a.
+#[derive(Clone)]
+struct Effect {
+    side: usize,
+    bounds: [[Bound; 2 * SIDE]; 2 * SIDE],
+}
+
+impl Effect {
+    /// The effect of a step, if it can be done at all.
+    fn of_step(table: &Table, step: usize) -> Option<Effect> {
+        let side = table.clocks + 1;
+        let mut bounds = [[NONE; 2 * SIDE]; 2 * SIDE];
+        let mut put = |from: usize, to: usize, bound: Bound| {
+            bounds[from][to] = bounds[from][to].min(bound);
+        };
+        let now = side;
+        put(now, 0, ZERO);
+        for j in 1..side {
+            let last = if table.resets[step] >> j & 1 == 1 {
+                now
+            } else {
+                j
+            };
+            put(0, j, ZERO);
+            put(last, side + j, ZERO);
+            put(side + j, last, ZERO);
+        }
+        for guard in table.guards_of(step) {
+            let (j, c) = (usize::from(guard.clock), i64::from(guard.constant));
+            match guard.relation {
+                Relation::Under => put(j, now, under(c)),
+                Relation::AtMost => put(j, now, at_most(c)),
+                Relation::Exactly => {
+                    put(j, now, at_most(c));
+                    put(now, j, at_most(-c));
+                }
+                Relation::AtLeast => put(now, j, at_most(-c)),
+                Relation::Over => put(now, j, under(-c)),
+            }
+        }
+        for v in 0..2 * side {
+            put(v, v, ZERO);
+        }
+        close(&mut bounds, 2 * side, 0..2 * side)?;
+        Some(Effect { side, bounds })
+    }
+
+    /// The effect of these steps and then others, if they can be done together. Both effects are closed, so that only ways
+    /// through the configuration between them are new.
+    fn then(&self, other: &Effect) -> Option<Effect> {
+        let side = self.side;
+        let mut joint = [[NONE; 3 * SIDE]; 3 * SIDE];
+        for a in 0..2 * side {
+            joint[a][..2 * side].copy_from_slice(&self.bounds[a][..2 * side]);
+        }
+        for a in 0..2 * side {
+            for b in 0..2 * side {
+                let bound = &mut joint[side + a][side + b];
+                *bound = other.bounds[a][b].min(*bound);
+            }
+        }
+        close(&mut joint, 3 * side, side..2 * side)?;
+        let mut bounds = [[NONE; 2 * SIDE]; 2 * SIDE];
+        for a in 0..2 * side {
+            let row = &joint[if a < side { a } else { side + a }];
+            bounds[a][..side].copy_from_slice(&row[..side]);
+            bounds[a][side..2 * side].copy_from_slice(&row[2 * side..3 * side]);
+        }
+        Some(Effect { side, bounds })
+    }
+
+    /// Whether two effects are possible from the same configurations.
+    fn same_starts(&self, other: &Effect) -> bool {
+        (0..self.side).all(|a| self.bounds[a][..self.side] == other.bounds[a][..self.side])
+    }
+}
+
+/// Tightens the bounds among the first `size` vertices by ways through those of a range (Floyd and Warshall); None where they
+/// contradict each other.
+fn close<const N: usize>(
+    bounds: &mut [[Bound; N]; N],
+    size: usize,
+    through: std::ops::Range<usize>,
+) -> Option<()> {
+    for p in through {
+        if bounds[p][p] < ZERO {
+            return None;
+        }
+        let on = bounds[p];
+        for row in &mut bounds[..size] {
+            let first = row[p];
+            if first != NONE {
+                for (bound, &second) in row[..size].iter_mut().zip(&on[..size]) {
+                    *bound = sum(first, second).min(*bound);
+                }
+            }
+        }
+    }
+    Some(())
+}
+
+/// The effect of one round of a table, if it can be done at all.
+fn effect_of_round(table: &Table) -> Option<Effect> {
+    let mut effect = Effect::of_step(table, 0)?;
+    for step in 1..table.steps {
+        effect = effect.then(&Effect::of_step(table, step)?)?;
+    }
+    Some(effect)
+}
+
+/// The rounds that a table allows: effects are doubled as far as they are possible, then the smaller ones added on the way
+/// back. Where twice as many rounds are possible from the same configurations, every number is.
+fn count(table: &Table) -> Rounds {
+    let Some(mut most) = effect_of_round(table) else {
+        return Rounds::Count(0);
+    };
+    let mut smaller = Vec::new();
+    while let Some(twice) = most.then(&most) {
+        if twice.same_starts(&most) {
+            return Rounds::WithoutEnd;
+        }
+        smaller.push(std::mem::replace(&mut most, twice));
+    }
+    let mut count = 1 << smaller.len();
+    for (i, effect) in smaller.iter().enumerate().rev() {
+        if let Some(more) = most.then(effect) {
+            most = more;
+            count += 1 << i;
+        }
+    }
+    Rounds::Count(count)
+}
+
+/// The questions in the form of the C interface (terminal/judge.h): four numbers in the first places of a lent answer; false,
+/// and nothing done, where it has fewer than four.
+pub mod entries {
+    use super::{Plan, Refusal, Rounds};
+
+    fn refusal(refusal: Refusal) -> [u64; 4] {
+        [refusal.fault as u64, refusal.place as u64, 0, 0]
+    }
+
+    fn give(answer: &mut [u64], numbers: impl FnOnce() -> Result<[u64; 4], Refusal>) -> bool {
+        let Some(first) = answer.first_chunk_mut() else {
+            return false;
+        };
+        *first = numbers().unwrap_or_else(refusal);
+        true
+    }
+
+    pub fn read(table: &[u8], answer: &mut [u64]) -> bool {
+        give(answer, || {
+            let c = super::read(table)?;
+            Ok([0, c.clocks as u64, c.steps as u64, c.guards as u64])
+        })
+    }
+
+    pub fn rounds(table: &[u8], answer: &mut [u64]) -> bool {
+        give(answer, || match super::rounds(table)? {
+            Rounds::Count(count) => Ok([0, 0, count, 0]),
+            Rounds::WithoutEnd => Ok([0, 1, 0, 0]),
+        })
+    }
+
+    pub fn plan(
+        table: &[u8],
+        k: u64,
+        times: &mut [u64],
+        starts: &mut [u64],
+        room: &mut [u64],
+        answer: &mut [u64],
+    ) -> bool {
+        give(answer, || {
+            match super::plan(table, k, times, starts, room)? {
+                Plan::Found { parts } => Ok([0, 0, parts, 0]),
+                Plan::Loop { length } => Ok([0, 1, length as u64, 0]),
+            }
+        })
+    }
+
+    pub fn demands(table: &[u8], k: u64, row: &mut [i64], answer: &mut [u64]) -> bool {
+        give(answer, || {
+            let number = super::demands(table, k, row)?;
+            Ok([0, number as u64, 0, 0])
+        })
+    }
+}

@@ -1,0 +1,687 @@
+//! Compares the proved library with plain Rust: 01's samples, random legal tables and damaged ones, each with all four
+//! questions, with rooms that are short, exact and longer. Every room is filled with random numbers before a call, so that what
+//! must be kept is seen to be kept. Where a loop is answered each side's loop is held to 01's definition, since which one is
+//! written is free.
+//!
+//! Prints counts and "compare: N agreed, 0 differ". Exit status 1 where something differs, or where a kind of answer did not
+//! occur.
+
+#[path = "judge.rs"]
+mod judge;
+#[path = "../plain/plain.rs"]
+mod plain;
+
+use std::collections::{BTreeMap, HashMap, HashSet};
+
+/// The four questions, as one side answers them.
+struct Side {
+    read: fn(&[u8], &mut [u64]) -> bool,
+    rounds: fn(&[u8], &mut [u64]) -> bool,
+    plan: fn(&[u8], u64, &mut [u64], &mut [u64], &mut [u64], &mut [u64]) -> bool,
+    demands: fn(&[u8], u64, &mut [i64], &mut [u64]) -> bool,
+}
+
+const PROVED: Side = Side {
+    read: judge::read,
+    rounds: judge::rounds,
+    plan: judge::plan,
+    demands: judge::demands,
+};
+
+const PLAIN: Side = Side {
+    read: plain::entries::read,
+    rounds: plain::entries::rounds,
+    plan: plain::entries::plan,
+    demands: plain::entries::demands,
+};
+
+/// Random numbers from a fixed seed (splitmix64).
+struct Random(u64);
+
+impl Random {
+    fn next(&mut self) -> u64 {
+        self.0 = self.0.wrapping_add(0x9e37_79b9_7f4a_7c15);
+        let z = (self.0 ^ (self.0 >> 30)).wrapping_mul(0xbf58_476d_1ce4_e5b9);
+        let z = (z ^ (z >> 27)).wrapping_mul(0x94d0_49bb_1331_11eb);
+        z ^ (z >> 31)
+    }
+
+    /// From a to b, both included.
+    fn within(&mut self, a: usize, b: usize) -> usize {
+        a + (self.next() % (b - a + 1) as u64) as usize
+    }
+
+    fn one_in(&mut self, n: usize) -> bool {
+        self.within(1, n) == 1
+    }
+
+    fn room(&mut self, len: usize) -> Vec<u64> {
+        (0..len).map(|_| self.next()).collect()
+    }
+
+    fn bytes(&mut self, len: usize, most: usize) -> Vec<u8> {
+        (0..len).map(|_| self.within(0, most) as u8).collect()
+    }
+}
+
+// Tables.
+
+const UNDER: u8 = 0;
+const AT_MOST: u8 = 1;
+const EXACTLY: u8 = 2;
+const AT_LEAST: u8 = 3;
+const OVER: u8 = 4;
+
+fn guard(clock: usize, relation: u8, constant: usize) -> Vec<u8> {
+    let [low, high] = (constant as u16).to_le_bytes();
+    vec![2, clock as u8, relation, low, high]
+}
+
+fn reset(clock: usize) -> Vec<u8> {
+    vec![3, clock as u8]
+}
+
+/// A table of these steps, each a list of its records.
+fn table(clocks: usize, steps: &[Vec<Vec<u8>>]) -> Vec<u8> {
+    let mut bytes = vec![1, clocks as u8];
+    for step in steps {
+        bytes.extend(step.concat());
+        bytes.push(4);
+    }
+    bytes.push(5);
+    bytes
+}
+
+/// A random legal table.
+fn legal(random: &mut Random) -> Vec<u8> {
+    let clocks = random.within(1, 6);
+    let most = *[1, 2, 5, 16].get(random.within(0, 3)).unwrap();
+    let length = random.within(1, most);
+    let mut steps = match random.within(0, 4) {
+        0 => any(random, clocks, length, 6),
+        1 => any(random, clocks, length, 4000),
+        2 => draining(random, clocks, length),
+        _ => scheduled(random, clocks, length),
+    };
+    for step in &mut steps {
+        for i in (1..step.len()).rev() {
+            step.swap(i, random.within(0, i));
+        }
+    }
+    table(clocks, &steps)
+}
+
+fn some_resets(random: &mut Random, clocks: usize) -> Vec<Vec<u8>> {
+    let number = [0, 1, 1, 2, 3, 8][random.within(0, 5)];
+    (0..number)
+        .map(|_| reset(random.within(1, clocks)))
+        .collect()
+}
+
+/// Any guards and resets, with constants up to a largest.
+fn any(random: &mut Random, clocks: usize, length: usize, largest: usize) -> Vec<Vec<Vec<u8>>> {
+    let most = if random.one_in(4) { 64 / length } else { 2 };
+    (0..length)
+        .map(|_| {
+            let mut records = some_resets(random, clocks);
+            for _ in 0..random.within(0, most) {
+                let (clock, relation) = (random.within(1, clocks), random.within(0, 4) as u8);
+                records.push(guard(clock, relation, random.within(0, largest)));
+            }
+            records
+        })
+        .collect()
+}
+
+/// A clock that makes each round last, and one that is not reset and runs out: finite counts of all sizes.
+fn draining(random: &mut Random, clocks: usize, length: usize) -> Vec<Vec<Vec<u8>>> {
+    let mut steps = vec![Vec::new(); length];
+    let (slow, last) = (random.within(1, clocks), random.within(1, clocks));
+    let (least, most) = (random.within(0, 9), random.within(0, 4000));
+    let (lower, upper) = ([AT_LEAST, OVER], [AT_MOST, UNDER]);
+    let (first, second) = (random.within(0, length - 1), random.within(0, length - 1));
+    steps[first].push(guard(slow, lower[random.within(0, 1)], least));
+    steps[first].push(reset(slow));
+    steps[second].push(guard(last, upper[random.within(0, 1)], most));
+    steps
+}
+
+/// Guards that a schedule of equal rounds meets; at times one is then made harder.
+fn scheduled(random: &mut Random, clocks: usize, length: usize) -> Vec<Vec<Vec<u8>>> {
+    let gaps: Vec<usize> = (0..length).map(|_| random.within(0, 40)).collect();
+    let resets: Vec<_> = (0..length).map(|_| some_resets(random, clocks)).collect();
+    // The reading of a clock at a step in the long run, if it is reset at all.
+    let reading = |clock: usize, step: usize| {
+        let mut time = 0;
+        for back in 0..length {
+            time += gaps[(step + length - back) % length];
+            if resets[(step + 2 * length - back - 1) % length].contains(&reset(clock)) {
+                return Some(time);
+            }
+        }
+        None
+    };
+    let most = if random.one_in(3) {
+        64 / length
+    } else {
+        3.min(64 / length)
+    };
+    let mut steps: Vec<Vec<Vec<u8>>> = resets.clone();
+    for (step, records) in steps.iter_mut().enumerate() {
+        for _ in 0..random.within(0, most) {
+            let clock = random.within(1, clocks);
+            let Some(time) = reading(clock, step) else {
+                continue;
+            };
+            let slack = [0, 1, 5, 100][random.within(0, 3)];
+            let harder = usize::from(random.one_in(60));
+            records.push(match random.within(0, 4) {
+                0 => guard(clock, UNDER, (time + 1 + slack).saturating_sub(harder)),
+                1 => guard(clock, AT_MOST, (time + slack).saturating_sub(harder)),
+                2 => guard(clock, EXACTLY, time + harder),
+                3 => guard(clock, AT_LEAST, time.saturating_sub(slack) + harder),
+                _ if time == 0 => guard(clock, AT_LEAST, harder),
+                _ => guard(clock, OVER, time.saturating_sub(1 + slack) + harder),
+            });
+        }
+    }
+    steps
+}
+
+/// Bytes that are a legal table only by chance.
+fn damaged(random: &mut Random) -> Vec<u8> {
+    let mut bytes = legal(random);
+    let place = random.within(0, bytes.len() - 1);
+    match random.within(0, 9) {
+        0 => {
+            for _ in 0..random.within(1, 3) {
+                let place = random.within(0, bytes.len() - 1);
+                bytes[place] = random.next() as u8;
+            }
+        }
+        1 => bytes[place] = random.within(0, 8) as u8,
+        2 => bytes.truncate(place),
+        3 => {
+            let number = random.within(1, 9);
+            bytes.extend(random.bytes(number, 7));
+        }
+        4 => {
+            bytes.remove(place);
+        }
+        5 => bytes.insert(place, random.within(0, 7) as u8),
+        6 => {
+            let (number, most) = (random.within(0, 40), [6, 255][random.within(0, 1)]);
+            bytes = random.bytes(number, most);
+        }
+        7 => {
+            bytes = vec![1, random.within(0, 8) as u8];
+            let number = random.within(0, 40);
+            bytes.extend(random.bytes(number, 6));
+        }
+        8 => too_much(random, &mut bytes),
+        _ => long(random, &mut bytes),
+    }
+    bytes
+}
+
+/// Puts many steps or guards, perhaps too many, after the head, and then a guard that may have several faults.
+fn too_much(random: &mut Random, bytes: &mut Vec<u8>) {
+    let (few, many) = [(0, 3), (14, 18), (62, 66)][random.within(0, 2)];
+    let number = random.within(few, many);
+    let mut more = if random.one_in(3) {
+        vec![4; number]
+    } else {
+        guard(1, AT_LEAST, random.within(3990, 4000)).repeat(number)
+    };
+    let (clock, relation) = (random.within(0, 8), random.within(0, 6) as u8);
+    more.extend(guard(clock, relation, random.within(3995, 4005)));
+    bytes.splice(2..2, more);
+}
+
+/// Puts resets after the head, up to the longest table, or one byte more or up to 5,000 bytes.
+fn long(random: &mut Random, bytes: &mut Vec<u8>) {
+    let length = [4095, 4096, 4097, random.within(4000, 5000)][random.within(0, 3)];
+    bytes.splice(2..2, reset(1).repeat((length - bytes.len()) / 2));
+    bytes.resize(length, random.within(0, 5) as u8);
+}
+
+// Questions.
+
+/// What was compared.
+struct Compare {
+    random: Random,
+    agreed: u64,
+    differ: u64,
+    seen: BTreeMap<String, u64>,
+    longest_loop: usize,
+}
+
+/// The rooms of a plan, and what was answered.
+#[derive(Clone, PartialEq, Debug)]
+struct Rooms {
+    times: Vec<u64>,
+    starts: Vec<u64>,
+    room: Vec<u64>,
+    answer: Vec<u64>,
+}
+
+impl Rooms {
+    fn ask(&self, side: &Side, bytes: &[u8], k: u64) -> (bool, Rooms) {
+        let mut r = self.clone();
+        let told = (side.plan)(
+            bytes,
+            k,
+            &mut r.times,
+            &mut r.starts,
+            &mut r.room,
+            &mut r.answer,
+        );
+        (told, r)
+    }
+}
+
+/// The demands of k rounds, by plain Rust.
+fn demands_of(bytes: &[u8], k: u64) -> Vec<[i64; 4]> {
+    let guards = plain::read(bytes).map_or(0, |c| c.steps + 2 * c.guards);
+    let mut row = vec![0; 4 * (k as usize * guards + plain::CLOCKS)];
+    let number = plain::demands(bytes, k, &mut row).unwrap_or(0);
+    row.chunks_exact(4)
+        .take(number)
+        .map(|d| [d[0], d[1], d[2], d[3]])
+        .collect()
+}
+
+/// Whether moments are a loop, by 01's definition.
+fn is_loop(demands: &[[i64; 4]], moments: &[u64]) -> bool {
+    let distinct = moments.iter().collect::<HashSet<_>>().len() == moments.len();
+    let next = moments.iter().cycle().skip(1);
+    let pairs = moments
+        .iter()
+        .zip(next)
+        .map(|(&a, &b)| (a as i64, b as i64));
+    // Per pair the smallest of (bound, not strict), which is the tightest demand.
+    let mut tightest: HashMap<(i64, i64), Option<(i64, bool)>> = pairs.map(|p| (p, None)).collect();
+    for &[from, to, bound, strict] in demands {
+        if let Some(best) = tightest.get_mut(&(from, to)) {
+            let here = (bound, strict == 0);
+            *best = Some(best.map_or(here, |b| b.min(here)));
+        }
+    }
+    let used: Option<Vec<(i64, bool)>> = tightest.into_values().collect();
+    let Some(used) = used else {
+        return false;
+    };
+    let sum: i64 = used.iter().map(|d| d.0).sum();
+    let strict = used.iter().any(|d| !d.1);
+    moments.len() >= 2 && distinct && (sum < 0 || sum == 0 && strict)
+}
+
+/// Whether moments and starts, in parts, meet all demands.
+fn is_run(demands: &[[i64; 4]], parts: u64, times: &[u64], starts: &[u64]) -> bool {
+    let time = |moment: i64| match moment as usize {
+        0 => 0,
+        i if i <= times.len() => times[i - 1] as i64,
+        i => -(starts[i - times.len() - 1] as i64),
+    };
+    demands
+        .iter()
+        .all(|&[from, to, bound, strict]| time(to) - time(from) <= bound * parts as i64 - strict)
+}
+
+impl Compare {
+    fn saw(&mut self, what: String) {
+        *self.seen.entry(what).or_default() += 1;
+    }
+
+    /// Counts a comparison, and shows it where the sides differ.
+    fn tell(&mut self, same: bool, bytes: &[u8], what: &str, proved: &str, plain: &str) {
+        if same {
+            self.agreed += 1;
+            return;
+        }
+        self.differ += 1;
+        if self.differ <= 10 {
+            let hex: Vec<String> = bytes.iter().map(|b| format!("{b:02x}")).collect();
+            println!("differ: {what}\n  table {}", hex.join(" "));
+            println!("  proved {proved:.300}\n  plain  {plain:.300}");
+        }
+    }
+
+    fn saw_refusal(&mut self, question: &str, answer: &[u64]) {
+        let number = answer[0];
+        if number != 0 {
+            self.saw(format!("refusal {number:2}"));
+            self.saw(format!("{question} refused"));
+        }
+    }
+
+    /// Read or rounds, with an answer room of some length.
+    fn short_question(&mut self, name: &str, bytes: &[u8], len: usize) -> Vec<u64> {
+        let side = |s: &Side| if name == "read" { s.read } else { s.rounds };
+        let room = self.random.room(len);
+        let (mut a, mut b) = (room.clone(), room);
+        let told = (side(&PROVED)(bytes, &mut a), side(&PLAIN)(bytes, &mut b));
+        let what = format!("{name}, answer room {len}");
+        let same = told.0 == told.1 && a == b;
+        self.tell(
+            same,
+            bytes,
+            &what,
+            &format!("{} {a:?}", told.0),
+            &format!("{} {b:?}", told.1),
+        );
+        if told.1 {
+            self.saw_refusal(name, &b);
+            match (name, &b[..4]) {
+                ("read", [0, ..]) => self.saw("read answered".into()),
+                ("rounds", [0, 1, ..]) => self.saw("rounds without end".into()),
+                ("rounds", [0, 0, 0, _]) => self.saw("rounds counted, 0".into()),
+                ("rounds", [0, 0, 1..=99, _]) => self.saw("rounds counted, 1 to 99".into()),
+                ("rounds", [0, 0, _, _]) => self.saw("rounds counted, 100 and more".into()),
+                _ => {}
+            }
+        } else {
+            self.saw("answer room too short".into());
+        }
+        b
+    }
+
+    /// Plan for k, with rooms of these lengths: times, starts, loop, answer.
+    fn plan(&mut self, bytes: &[u8], k: u64, lens: [usize; 4]) -> Rooms {
+        let [times, starts, room, answer] = lens.map(|len| self.random.room(len));
+        let before = Rooms {
+            times,
+            starts,
+            room,
+            answer,
+        };
+        let (told_a, a) = before.ask(&PROVED, bytes, k);
+        let (told_b, b) = before.ask(&PLAIN, bytes, k);
+        let answered = told_b && b.answer[0] == 0;
+        let mut same = told_a == told_b;
+        if !answered {
+            same &= a == b;
+        } else if b.answer[1] == 0 {
+            let (n, total) = self.sizes(bytes, k);
+            let demands = demands_of(bytes, k);
+            same &= a == b && is_run(&demands, b.answer[2], &b.times[..total], &b.starts[..n]);
+            self.saw("plan found".into());
+        } else {
+            let demands = demands_of(bytes, k);
+            for r in [&a, &b] {
+                let length = r.answer[2] as usize;
+                same &= r.answer[..2] == [0, 1]
+                    && r.answer[3..] == [&[0], &before.answer[4..]].concat();
+                same &= length <= r.room.len() && r.room[length..] == before.room[length..];
+                same &= r.times == before.times && r.starts == before.starts;
+                same = same && is_loop(&demands, &r.room[..length]);
+                self.longest_loop = self.longest_loop.max(length);
+            }
+            self.saw("plan is a loop".into());
+        }
+        if told_b {
+            self.saw_refusal("plan", &b.answer);
+        }
+        let what = format!("plan for {k}, rooms {lens:?}");
+        self.tell(
+            same,
+            bytes,
+            &what,
+            &format!("{told_a} {a:?}"),
+            &format!("{told_b} {b:?}"),
+        );
+        b
+    }
+
+    /// Demands for k, with a row and an answer room of these lengths.
+    fn demands(&mut self, bytes: &[u8], k: u64, len: usize, answer: usize) {
+        let row: Vec<i64> = (0..len).map(|_| self.random.next() as i64).collect();
+        let answer = self.random.room(answer);
+        let (mut a, mut b) = ((row.clone(), answer.clone()), (row, answer));
+        let told = (
+            (PROVED.demands)(bytes, k, &mut a.0, &mut a.1),
+            (PLAIN.demands)(bytes, k, &mut b.0, &mut b.1),
+        );
+        if told.1 {
+            self.saw_refusal("demands", &b.1);
+            if b.1[0] == 0 {
+                self.saw("demands answered".into());
+            }
+        }
+        let what = format!("demands for {k}, row {len}");
+        let same = told.0 == told.1 && a == b;
+        let show = |told, room: &(Vec<i64>, Vec<u64>)| format!("{told} {:?} {:?}", room.1, room.0);
+        self.tell(same, bytes, &what, &show(told.0, &a), &show(told.1, &b));
+    }
+
+    /// The clocks of a table and the steps of k rounds of it; 0 where there are none.
+    fn sizes(&self, bytes: &[u8], k: u64) -> (usize, usize) {
+        plain::read(bytes).map_or((0, 0), |c| (c.clocks, c.steps.wrapping_mul(k as usize)))
+    }
+
+    /// Plan and demands for k, in rooms of all lengths that matter.
+    fn plan_and_demands(&mut self, bytes: &[u8], k: u64) -> Rooms {
+        let (n, total) = self.sizes(bytes, k);
+        let legal = (1..=plain::TOTAL).contains(&total) && k <= plain::TOTAL as u64;
+        let (times, room) = if legal {
+            (total, total + n + 1)
+        } else {
+            (7, 9)
+        };
+        let more = self.random.within(1, 5);
+        self.plan(bytes, k, [times + more, n + more, room + more, 4 + more]);
+        self.plan(bytes, k, [times - 1, n, room, 4]);
+        self.plan(bytes, k, [times, n.saturating_sub(1), room, 4]);
+        self.plan(bytes, k, [times, n, room - 1, 4]);
+        self.plan(bytes, k, [0, 0, 0, 4 + more]);
+        let short = self.random.within(0, 3);
+        self.plan(bytes, k, [times, n, room, short]);
+        let places = if legal {
+            4 * demands_of(bytes, k).len()
+        } else {
+            16
+        };
+        self.demands(bytes, k, places, 4);
+        self.demands(bytes, k, places + more, 4 + more);
+        self.demands(bytes, k, places.saturating_sub(1), 4);
+        self.demands(bytes, k, 0, 4);
+        self.demands(bytes, k, places, short);
+        self.plan(bytes, k, [times, n, room, 4])
+    }
+
+    /// All questions about some bytes.
+    fn all(&mut self, bytes: &[u8]) {
+        for len in [0, 3, 9] {
+            self.short_question("read", bytes, len);
+            self.short_question("rounds", bytes, len);
+        }
+        self.short_question("read", bytes, 4);
+        let rounds = self.short_question("rounds", bytes, 4);
+        let steps = plain::read(bytes).map_or(1, |c| c.steps) as u64;
+        let most = plain::TOTAL as u64 / steps;
+        let small = self.random.within(1, 9) as u64;
+        let mut ks = vec![
+            0,
+            1,
+            2,
+            small,
+            most + 1,
+            u64::MAX,
+            (u64::MAX / steps).wrapping_add(2),
+        ];
+        if self.random.one_in(20) {
+            ks.push(most);
+        }
+        if rounds[0] == 0 && rounds[1] == 0 && rounds[2] < most.min(100) {
+            ks.extend([rounds[2], rounds[2] + 1]);
+        }
+        for k in ks {
+            let plan = self.plan_and_demands(bytes, k);
+            if rounds[0] == 0 && plan.answer[0] == 0 {
+                // A plan exists just where the count allows it.
+                let allowed = rounds[1] == 1 || k <= rounds[2];
+                let same = allowed == (plan.answer[1] == 0);
+                self.tell(same, bytes, &format!("rounds and plan for {k}"), "", "");
+            }
+        }
+    }
+}
+
+// Samples.
+
+/// One of 01's samples: the rounds that it allows (None: without end), and of a plan k, P, the moments and the starts.
+struct Sample {
+    name: &'static str,
+    bytes: &'static [u8],
+    rounds: Option<u64>,
+    plan: Option<(u64, u64, &'static [u64], &'static [u64])>,
+}
+
+macro_rules! sample {
+    ($name:literal, $rounds:expr, $plan:expr) => {
+        Sample {
+            name: $name,
+            bytes: include_bytes!(concat!("../samples/", $name, ".table")),
+            rounds: $rounds,
+            plan: $plan,
+        }
+    };
+}
+
+const SAMPLES: [Sample; 11] = [
+    sample!("S1", None, Some((2, 4, &[0, 12], &[12]))),
+    sample!("S2", Some(2), Some((2, 5, &[0, 15], &[15, 0]))),
+    sample!("S3", Some(2), None),
+    sample!("S4", Some(3), None),
+    sample!("S5", Some(1), None),
+    sample!("S6", Some(0), None),
+    sample!("S7", Some(0), None),
+    sample!("S8", None, Some((3, 6, &[0, 1, 2], &[1, 0]))),
+    sample!("S9", None, Some((2, 4, &[0, 0], &[8]))),
+    sample!("S10", None, Some((2, 7, &[0, 21, 21, 42], &[0, 0]))),
+    sample!("S11", Some(4001), None),
+];
+
+impl Compare {
+    /// Both sides give the answer that 01 names.
+    fn named(
+        &mut self,
+        bytes: &[u8],
+        what: &str,
+        expected: [u64; 4],
+        ask: impl Fn(&Side, &mut [u64]) -> bool,
+    ) {
+        let (mut a, mut b) = ([9; 4], [9; 4]);
+        let told = (ask(&PROVED, &mut a), ask(&PLAIN, &mut b));
+        let same = told == (true, true) && a == expected && b == expected;
+        self.tell(
+            same,
+            bytes,
+            &format!("{what}, 01 has {expected:?}"),
+            &format!("{a:?}"),
+            &format!("{b:?}"),
+        );
+    }
+
+    fn named_plan(&mut self, bytes: &[u8], what: &str, k: u64, expected: [u64; 4]) {
+        self.named(bytes, what, expected, |side, answer| {
+            let (mut times, mut starts, mut room) = ([0; 1024], [0; 6], [0; 1031]);
+            (side.plan)(bytes, k, &mut times, &mut starts, &mut room, answer)
+        });
+    }
+
+    fn sample(&mut self, s: &Sample) {
+        let expected = s.rounds.map_or([0, 1, 0, 0], |count| [0, 0, count, 0]);
+        self.named(s.bytes, s.name, expected, |side, answer| {
+            (side.rounds)(s.bytes, answer)
+        });
+        if let Some((k, parts, times, starts)) = s.plan {
+            self.named_plan(s.bytes, s.name, k, [0, 0, parts, 0]);
+            let r = self.plan(s.bytes, k, [times.len(), starts.len(), parts as usize, 4]);
+            let same = r.times == times && r.starts == starts;
+            self.tell(same, s.bytes, s.name, "", &format!("{r:?}"));
+        }
+        self.all(s.bytes);
+    }
+
+    /// The limits that 01 names, and tables at them.
+    fn limits(&mut self) {
+        let constant = |c| table(1, &[vec![guard(1, AT_MOST, c)]]);
+        let clocks = |n| table(n, &[vec![]]);
+        let long = |n| [vec![1, 1], reset(1).repeat(n), vec![4, 5]].concat();
+        let guards = |n| table(1, &[vec![guard(1, AT_LEAST, 1); n]]);
+        let steps = |n| table(1, &vec![vec![]; n]);
+        let of_bytes = [
+            (vec![], [2, 0, 0, 0]),
+            (vec![1], [2, 0, 0, 0]),
+            (constant(4000), [0, 1, 1, 1]),
+            (constant(4001), [8, 2, 0, 0]),
+            (clocks(6), [0, 6, 1, 0]),
+            (clocks(0), [4, 0, 0, 0]),
+            (clocks(7), [4, 0, 0, 0]),
+            (long(2046), [0, 1, 1, 0]),
+            (long(2047), [1, 4096, 0, 0]),
+            (guards(64), [0, 1, 1, 64]),
+            (guards(65), [5, 322, 0, 0]),
+            (steps(16), [0, 1, 16, 0]),
+            (steps(17), [9, 18, 0, 0]),
+        ];
+        for (bytes, expected) in of_bytes {
+            self.named(&bytes, "read", expected, |side, answer| {
+                (side.read)(&bytes, answer)
+            });
+            self.all(&bytes);
+        }
+        let loop_of_3 = [0, 1, 5, 0];
+        self.named_plan(SAMPLES[1].bytes, "S2 for 3", 3, loop_of_3);
+        self.named_plan(SAMPLES[10].bytes, "S11 for 4,001", 4001, [11, 0, 0, 0]);
+        self.named_plan(SAMPLES[0].bytes, "S1 for 1,024", 1024, [0, 0, 1026, 0]);
+        self.named_plan(SAMPLES[0].bytes, "S1 for 1,025", 1025, [11, 0, 0, 0]);
+    }
+}
+
+fn main() {
+    let (legal_tables, damaged_tables) = (4000, 4000);
+    let mut compare = Compare {
+        random: Random(20),
+        agreed: 0,
+        differ: 0,
+        seen: BTreeMap::new(),
+        longest_loop: 0,
+    };
+    for s in &SAMPLES {
+        compare.sample(s);
+    }
+    compare.limits();
+    for _ in 0..legal_tables {
+        let bytes = legal(&mut compare.random);
+        let accepted = plain::read(&bytes).is_ok();
+        compare.tell(accepted, &bytes, "a legal table", "", "refused");
+        compare.all(&bytes);
+    }
+    for _ in 0..damaged_tables {
+        let bytes = damaged(&mut compare.random);
+        compare.all(&bytes);
+    }
+    println!(
+        "{} samples and the limits, {legal_tables} legal tables, {damaged_tables} damaged ones",
+        SAMPLES.len()
+    );
+    for (what, number) in &compare.seen {
+        println!("{what}: {number}");
+    }
+    println!("longest loop: {} moments", compare.longest_loop);
+    let missing: Vec<u64> = (1..=15)
+        .filter(|number| !compare.seen.contains_key(&format!("refusal {number:2}")))
+        .collect();
+    if !missing.is_empty() {
+        println!("refusals that did not occur: {missing:?}");
+    }
+    println!(
+        "compare: {} agreed, {} differ",
+        compare.agreed, compare.differ
+    );
+    if compare.differ > 0 || !missing.is_empty() {
+        std::process::exit(1);
+    }
+}

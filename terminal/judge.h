@@ -1,0 +1,99 @@
+/* Four questions about a timing table, answered by the proved library libjudge.a.
+ *
+ * A table has n clocks (1 to 6), L steps a round (1 to 16) and at most 64 guards. Time is counted in parts, P to a tick.
+ *
+ * Rules for every call
+ *   - A room is a pointer and the number of its places. The pointer is not null, also where the number is 0, and is aligned
+ *     for its type. A room lent to be written overlaps no other room of the call.
+ *   - `answer` needs 4 places. With fewer, false is returned and no room changes. Otherwise true is returned and the first 4
+ *     places of `answer` hold the answer.
+ *   - answer[0] is 0, or the number of a refusal. A refusal is { number, place of a byte, 0, 0 }, and no other room changes.
+ *   - Places that are not named as written keep their contents.
+ *   - Nothing is kept between calls, and no memory is allocated.
+ *
+ * Refusals, in the order of the tests, with the place that each gives. Records are taken from the left, and the first fault
+ * counts.
+ *    1 length    the table has over 4,096 bytes                           4,096
+ *    3 kind      a record's kind is not 1 to 5                            its kind byte
+ *    4 head      the first record is not of kind 1, or a later one is     its kind byte
+ *    2 cut       the bytes run out in a record's body                     its kind byte
+ *                no record begins where one is due                        the table's length
+ *    4 head      n is not 1 to 6                                          its kind byte
+ *    5 bounds    a guard is the 65th                                      its kind byte
+ *    6 timer     the clock of a guard or reset is not 1 to n              its kind byte
+ *    7 relation  a guard's relation is above 4                            its kind byte
+ *    8 constant  a guard's constant is above 4,000                        its kind byte
+ *    9 steps     a finished step is the 17th                              its kind byte
+ *                at the end, no step or a guard or reset since the last   its kind byte
+ *   10 tail      a byte follows the end                                   that byte
+ *   11 rounds    plan, demands: k is 0, or k L is above 1,024             0
+ *   12 times     plan: `times` has fewer than k L places                  0
+ *   13 starts    plan: `starts` has fewer than n places                   0
+ *   14 loop      plan: `loop` has fewer than k L + n + 1 places           0
+ *   15 list      demands: `row` has fewer than 4 places for each demand   0
+ */
+#ifndef JUDGE_H
+#define JUDGE_H
+
+#include <stdbool.h>
+#include <stddef.h>
+#include <stdint.h>
+
+#ifdef __cplusplus
+extern "C" {
+#endif
+
+/* The most places that a room can need. */
+enum {
+    JUDGE_ANSWER = 4,
+    JUDGE_TABLE = 4096,
+    JUDGE_TIMES = 1024,
+    JUDGE_STARTS = 6,
+    JUDGE_LOOP = 1031,
+    JUDGE_ROW = 4 * 132102 /* 1,024 rounds of one step with 64 exact guards, which have two demands each, and 6 clocks */
+};
+
+/* Read: what the table has.
+ *   { 0, n, L, number of guards }
+ * or a refusal 1 to 10. */
+bool judge_read(const uint8_t *table, size_t table_len,
+                uint64_t *answer, size_t answer_len);
+
+/* Rounds: the greatest number of rounds, 0 included, that has a run.
+ *   { 0, 0, count, 0 }         The count, below 2^32.
+ *   { 0, 1, 0, 0 }             Without end: every number of rounds has a run.
+ * or a refusal 1 to 10. */
+bool judge_rounds(const uint8_t *table, size_t table_len,
+                  uint64_t *answer, size_t answer_len);
+
+/* Plan for k rounds.
+ *   { 0, 0, P, 0 }             A run exists, and P = k L + n + 1 is the parts to a tick. The first k L places of `times` hold
+ *                              the moments of the steps, in parts since the start: of all runs in these parts the earliest,
+ *                              for every step at once. The first n places of `starts` hold the smallest readings, in parts,
+ *                              with which the clocks can start for these moments. `loop` is kept.
+ *   { 0, 1, length, 0 }        No run exists. The first `length` places of `loop` hold a loop: at least two distinct moments,
+ *                              0 to k L + n, with a demand from each to the next and from the last to the first; the
+ *                              tightest of these sum to below 0, or to 0 with a strict one among them. Which loop is written
+ *                              is not fixed. `times` and `starts` are kept.
+ * or a refusal 1 to 14. */
+bool judge_plan(const uint8_t *table, size_t table_len, uint64_t k,
+                uint64_t *times, size_t times_len,
+                uint64_t *starts, size_t starts_len,
+                uint64_t *loop, size_t loop_len,
+                uint64_t *answer, size_t answer_len);
+
+/* Demands of k rounds.
+ *   { 0, number, 0, 0 }        The first 4 * number places of `row` hold the demands, in their order, four numbers to each:
+ *                              from, to, bound, strict (0 or 1). The time at moment `to` less that at moment `from` is at
+ *                              most `bound` ticks, or under it if strict. Moment 0 is the start, 1 to k L are the steps, and
+ *                              k L + j is the last reset of clock j before the start.
+ * or a refusal 1 to 11, or 15. */
+bool judge_demands(const uint8_t *table, size_t table_len, uint64_t k,
+                   int64_t *row, size_t row_len,
+                   uint64_t *answer, size_t answer_len);
+
+#ifdef __cplusplus
+}
+#endif
+
+#endif
