@@ -1,91 +1,45 @@
 // Writes the demands of some tables, in rows that are too short, exact and longer, and prints them.
 use demands::Listed;
-use libc::STDOUT_FILENO;
-
-fn word(text: &[u8]) {
-    io::write_all(STDOUT_FILENO, text);
-}
-
-fn number(x: u64) {
-    io::print_decimal(STDOUT_FILENO, x);
-}
-
-// A signed number between -4,000 and 4,000; any other as "?".
-fn signed(x: i64) {
-    if x < 0 {
-        if x < -4000 {
-            word(b"?");
-            return;
-        }
-        word(b"-");
-        number((0 - x) as u64);
-        return;
-    }
-    number(x as u64);
-}
-
-fn answer(listed: Listed) {
-    match listed {
-        Listed::Written(n) => {
-            word(b"demands ");
-            number(n as u64);
-        }
-        Listed::Refused(r) => {
-            let fault = r.fault;
-            word(b"refused ");
-            number(table::number(fault));
-            word(b" at ");
-            number(r.place as u64);
-        }
-    }
-}
-
-// A row's cells, four to a line.
-fn cells(row: &[i64], from: usize) {
-    let mut i = from;
-    while i < row.len() {
-        signed(row[i]);
-        if i % 4 == 3 {
-            word(b"\n");
-        } else {
-            word(b" ");
-        }
-        i += 1;
-    }
-    word(b"|\n");
-}
+use testkit::cells;
+use testkit::field;
+use testkit::refusal;
+use testkit::title;
+use testkit::word;
 
 // A name, the answer on k rounds, and the whole row as it then is.
 fn show(name: &[u8], bytes: &[u8], k: u64, row: &mut [i64], from: usize) {
-    word(name);
-    word(b": ");
-    answer(demands::demands(bytes, k, &mut *row));
+    title(name);
+    let listed = demands::demands(bytes, k, &mut *row);
+    match listed {
+        Listed::Written(n) => field(b"demands ", n as u64),
+        Listed::Refused(why) => refusal(why),
+    }
     word(b"\n");
     cells(&*row, from);
 }
 
 // S2 for 3 rounds: 11 demands, so 44 cells.
 fn rooms() {
-    let s2 = b"\x01\x02\x02\x01\x03\x03\x00\x02\x02\x01\x05\x00\x03\x01\x04\x05";
+    let s2 = testkit::S2;
     let mut short = [9i64; 43];
-    show(b"S2 for 3, 43 cells", s2, 3, &mut short, 36);
+    show(b"S2 for 3, 43 cells", &s2, 3, &mut short, 36);
     let mut exact = [9i64; 44];
-    show(b"S2 for 3, 44 cells", s2, 3, &mut exact, 0);
+    show(b"S2 for 3, 44 cells", &s2, 3, &mut exact, 0);
     let mut longer = [9i64; 46];
-    show(b"S2 for 3, 46 cells", s2, 3, &mut longer, 36);
+    show(b"S2 for 3, 46 cells", &s2, 3, &mut longer, 36);
     let mut none = [9i64; 0];
-    show(b"S2 for 3, no cell", s2, 3, &mut none, 0);
+    show(b"S2 for 3, no cell", &s2, 3, &mut none, 0);
 }
 
 // k of 0, too large, and far too large; and the reader's refusals first.
 fn refusals() {
-    let s2 = b"\x01\x02\x02\x01\x03\x03\x00\x02\x02\x01\x05\x00\x03\x01\x04\x05";
+    let s2 = testkit::S2;
     let mut row = [9i64; 4];
-    show(b"S2 for 0", s2, 0, &mut row, 0);
-    show(b"S2 for 1025", s2, 1025, &mut row, 0);
+    show(b"S2 for 0", &s2, 0, &mut row, 0);
+    show(b"S2 for 1025", &s2, 1025, &mut row, 0);
     show(
         b"S2 for 18446744073709551615",
-        s2,
+        &s2,
         18446744073709551615,
         &mut row,
         0,
@@ -98,7 +52,7 @@ fn refusals() {
         0,
     );
     show(b"no table for 0", b"\x01\x01\x05", 0, &mut row, 0);
-    show(b"S2 for 1", s2, 1, &mut row, 0);
+    show(b"S2 for 1", &s2, 1, &mut row, 0);
 }
 
 // Every relation; exactly gives two demands, at most first.

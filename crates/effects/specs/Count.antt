@@ -54,7 +54,8 @@ module _ (τ : List Step) (f : Fairs τ) (long : 0 < length τ) where
         → (n : ℕ) → suc k ≤ n → Steps P (copies τ n) u v → (m : ℕ) → From (copies τ m) P u
     go-on k (A, dA) (B, dB) h n l r m =
         let t = fewer-steps τ (suc k) n P l r in
-        onward τ f (suc k) A B dA dB h m P u p (left-sound (fairs-copies τ (suc k) f) dA P u (t .0) p (t .1))
+        onward τ f (suc k) (suc (suc k)) (omega arith) A B dA dB h m P u p
+        (left-sound (fairs-copies τ (suc k) f) dA P u (t .0) p (t .1))
 
     -- n is at least the sum of the ranks, which falls by one at least with each round while nothing settles.
     down : (n k : ℕ) (A : Effect (copies τ (suc k))) → total leftRange (A .0) ≤ n

@@ -1,8 +1,8 @@
 -- The left part of an effect, among the vertices of the configuration before, tells from where the steps run. With more
--- rounds it only tightens; where one more round leaves it as it is, every number of rounds runs.
+-- rounds it only tightens; where one more round, or several, leave it as it is, every number of rounds runs.
 use mathlib.Core.Path.{_≡_, refl, ap}
 use mathlib.Core.List.{List, _++_}
-use Prim.Native.Nat.{ℕ, zero, suc, _+_, _*_, _<_}
+use Prim.Native.Nat.{ℕ, zero, suc, _+_, _*_, _≤_, _<_}
 use native.Mathlib.Omega.{arith}
 use native.Mathlib.Decide.{decLt}
 use native.Mathlib.Nat.{mul-pos}
@@ -89,10 +89,16 @@ module _ (τ : List Step) (f : Fairs τ) where
       let t = fewer-steps τ k (suc k) P (omega arith) r in
       left-sound (fairs-copies τ k f) dA P x (t .0) p (t .1) a b ha hb)
 
-  module _ (k : ℕ) (A B : Matrix) (dA : Describes (copies τ k) A) (dB : Describes (copies τ (suc k)) B)
+  -- A start of n rounds is a start of fewer.
+  from-fewer : (j n P : ℕ) (u : Config) → j ≤ n → From (copies τ n) P u → From (copies τ j) P u
+  from-fewer j n P u l r =
+      let t = fewer-steps τ j n (r .scale * P) l (r .run) in
+      record { scale = r .scale; shift = r .shift; scale-pos = r .scale-pos; end = t .0; run = t .1 }
+
+  module _ (k n : ℕ) (more : k < n) (A B : Matrix) (dA : Describes (copies τ k) A) (dB : Describes (copies τ n) B)
       (same : Left A B) where
-    -- Where one round more does not tighten the left part, a run of any number of rounds starts where one of k does:
-    -- the first round leads to such a start again.
+    -- Where n rounds, more than k, do not tighten the left part, a run of any number of rounds starts where one of k
+    -- does: the first round leads to such a start again.
     pub onward : (m P : ℕ) (u : Config) → 0 < P → Solves 7 P A u → From (copies τ m) P u
     unfolding copies
     onward zero P u p s = record {
@@ -106,8 +112,9 @@ module _ (τ : List Step) (f : Fairs τ) where
       where
         g : From (copies τ (suc k)) P u
         g =
-            left-exact (fairs-copies τ (suc k) f) dB P u p
-            (λ a b ha hb. sat-mono P (u a) (u b) p (same a b ha hb) (s a b ha hb))
+            from-fewer (suc k) n P u (omega arith)
+            (left-exact (fairs-copies τ n f) dB P u p
+            (λ a b ha hb. sat-mono P (u a) (u b) p (same a b ha hb) (s a b ha hb)))
 
         Q : ℕ
         Q = g .scale * P

@@ -1,7 +1,13 @@
 // Writes the demands of a table to lists of records that are too short, exact and longer, and prints them.
 use demands::Line;
 use demands::Listed;
-use libc::STDOUT_FILENO;
+use testkit::cells;
+use testkit::field;
+use testkit::number;
+use testkit::refusal;
+use testkit::signed;
+use testkit::title;
+use testkit::word;
 ghost use mathlib.Core.Path.{_≡_};
 ghost use mathlib.Core.List.{_++_};
 ghost use Prim.Native.Nat.{_≤_};
@@ -31,42 +37,12 @@ fn run(bytes: &[u8], k: u64, row: &mut [i64], lines: [Line; 13], n: usize) -> Do
     }
 }
 
-fn word(text: &[u8]) {
-    io::write_all(STDOUT_FILENO, text);
-}
-
-fn number(x: u64) {
-    io::print_decimal(STDOUT_FILENO, x);
-}
-
-// A signed number from -4,000 up; any other as "?".
-fn signed(x: i64) {
-    if x < 0 {
-        if x < -4000 {
-            word(b"?");
-            return;
-        }
-        word(b"-");
-        number((0 - x) as u64);
-        return;
-    }
-    number(x as u64);
-}
-
 fn answer(listed: Listed) {
     match listed {
-        Listed::Written(n) => {
-            word(b"demands ");
-            number(n as u64);
-        }
-        Listed::Refused(r) => {
-            let fault = r.fault;
-            word(b"refused ");
-            number(table::number(fault));
-            word(b" at ");
-            number(r.place as u64);
-        }
+        Listed::Written(n) => field(b"demands ", n as u64),
+        Listed::Refused(why) => refusal(why),
     }
+    word(b"\n");
 }
 
 // A record's four numbers on a line.
@@ -90,27 +66,12 @@ fn records(lines: [Line; 13]) {
     word(b"|\n");
 }
 
-// A row's cells, four to a line.
-fn cells(row: &[i64]) {
-    let mut i: usize = 0;
-    while i < row.len() {
-        signed(row[i]);
-        if i % 4 == 3 {
-            word(b"\n");
-        } else {
-            word(b" ");
-        }
-        i += 1;
-    }
-    word(b"|\n");
-}
-
 // The list entry on S2 for 3 rounds, which have 11 demands, at a list of n records that are all 9s: the answer, then all 13
 // records and the row as they then are.
 fn show(name: &[u8], row: &mut [i64], n: usize)
     requires { ⌜ n ≤ 13 ⌝ }
 {
-    let s2 = b"\x01\x02\x02\x01\x03\x03\x00\x02\x02\x01\x05\x00\x03\x01\x04\x05";
+    let s2 = testkit::S2;
     let nine = Line {
         from: 9,
         to: 9,
@@ -118,15 +79,13 @@ fn show(name: &[u8], row: &mut [i64], n: usize)
         strict: 9,
     };
     let lines = [nine; 13];
-    let done = run(s2, 3, &mut *row, lines, n);
+    let done = run(&s2, 3, &mut *row, lines, n);
     let listed = done.listed;
     let list = done.lines;
-    word(name);
-    word(b": ");
+    title(name);
     answer(listed);
-    word(b"\n");
     records(list);
-    cells(&*row);
+    cells(&*row, 0);
 }
 
 fn main() {

@@ -1,28 +1,14 @@
 // Runs the reader on small, long and faulty tables, and prints each answer.
-use libc::STDOUT_FILENO;
 use table::Read;
-
-fn word(text: &[u8]) {
-    io::write_all(STDOUT_FILENO, text);
-}
-
-fn number(x: usize) {
-    io::print_decimal(STDOUT_FILENO, x as u64);
-}
-
-fn counted(clocks: usize, steps: usize, guards: usize) {
-    word(b"clocks ");
-    number(clocks);
-    word(b" steps ");
-    number(steps);
-    word(b" guards ");
-    number(guards);
-}
+use testkit::field;
+use testkit::fill;
+use testkit::refusal;
+use testkit::title;
+use testkit::word;
 
 // A name, and the answer on a table.
 fn show(name: &[u8], bytes: &[u8]) {
-    word(name);
-    word(b": ");
+    title(name);
     let answer = wire::read(bytes);
     match answer {
         Read::Counted {
@@ -30,15 +16,11 @@ fn show(name: &[u8], bytes: &[u8]) {
             steps,
             guards,
         } => {
-            counted(clocks, steps, guards);
+            field(b"clocks ", clocks as u64);
+            field(b" steps ", steps as u64);
+            field(b" guards ", guards as u64);
         }
-        Read::Refused(r) => {
-            let fault = r.fault;
-            word(b"refused ");
-            io::print_decimal(STDOUT_FILENO, table::number(fault));
-            word(b" at ");
-            number(r.place);
-        }
+        Read::Refused(why) => refusal(why),
     }
     word(b"\n");
 }
@@ -119,74 +101,41 @@ fn two_faults() {
     );
 }
 
-// A name, and the answer on the first bytes of an array.
-fn show_first(name: &[u8], t: [u8; 4097], count: usize) {
-    if 4097 < count {
-        return;
-    }
-    show(name, &t[..count]);
+// One step of guards on a clock, the last of them perhaps on another.
+fn guards() {
+    let mut most = [0u8; 324];
+    fill(&mut most, b"\x01\x01", b"\x02\x01\x01\x00\x00", b"\x04\x05");
+    show(b"64 guards", &most);
+    let mut more = [0u8; 329];
+    fill(&mut more, b"\x01\x01", b"\x02\x01\x01\x00\x00", b"\x04\x05");
+    show(b"65 guards", &more);
+    fill(
+        &mut more,
+        b"\x01\x01",
+        b"\x02\x01\x01\x00\x00",
+        b"\x02\x09\x01\x00\x00\x04\x05",
+    );
+    show(b"65 guards, the last on clock 9", &more);
 }
 
-// One step with a number of guards, the last of them on a clock.
-fn guards(name: &[u8], count: usize, last: u8) {
-    if 65 < count || count < 1 {
-        return;
-    }
-    let mut t = [0u8; 4097];
-    let mut g: usize = 0;
-    while g < count {
-        t[2 + 5 * g] = 2;
-        t[3 + 5 * g] = 1;
-        t[4 + 5 * g] = 1;
-        g += 1;
-    }
-    let mut u = t;
-    u[0] = 1;
-    u[1] = 1;
-    u[5 * count - 2] = last;
-    u[2 + 5 * count] = 4;
-    u[3 + 5 * count] = 5;
-    show_first(name, u, 4 + 5 * count);
+// Steps with nothing in them.
+fn steps() {
+    let mut most = [0u8; 19];
+    fill(&mut most, b"\x01\x01", b"\x04", b"\x05");
+    show(b"16 steps", &most);
+    let mut more = [0u8; 20];
+    fill(&mut more, b"\x01\x01", b"\x04", b"\x05");
+    show(b"17 steps", &more);
 }
 
-// A number of steps with nothing in them.
-fn steps(name: &[u8], count: usize) {
-    if 60 < count {
-        return;
-    }
-    let mut t = [4u8; 4097];
-    t[0] = 1;
-    t[1] = 1;
-    t[2 + count] = 5;
-    show_first(name, t, 3 + count);
-}
-
-// A step with as many resets of a clock as fill an even number of bytes, the last of them the end.
-fn long(name: &[u8], pairs: usize, count: usize) {
-    if 2048 < pairs || pairs < 1 {
-        return;
-    }
-    let mut t = [3u8; 4097];
-    let mut i: usize = 0;
-    while i < pairs {
-        t[2 * i + 1] = 6;
-        i += 1;
-    }
-    let mut u = t;
-    u[0] = 1;
-    u[2 * pairs - 2] = 4;
-    u[2 * pairs - 1] = 5;
-    show_first(name, u, count);
-}
-
-fn limits() {
-    guards(b"64 guards", 64, 1);
-    guards(b"65 guards", 65, 1);
-    guards(b"65 guards, the last on clock 9", 65, 9);
-    steps(b"16 steps", 16);
-    steps(b"17 steps", 17);
-    long(b"4096 bytes", 2048, 4096);
-    long(b"4097 bytes", 2048, 4097);
+// A step of as many resets of a clock as fill the longest table, and a byte after it.
+fn long() {
+    let mut most = [0u8; 4096];
+    fill(&mut most, b"\x01\x06", b"\x03\x06", b"\x04\x05");
+    show(b"4096 bytes", &most);
+    let mut more = [0u8; 4097];
+    fill(&mut more, b"\x01\x06", b"\x03\x06", b"\x04\x05\x03");
+    show(b"4097 bytes", &more);
 }
 
 // All proper prefixes of a table of three steps, and the whole of it.
@@ -200,25 +149,13 @@ fn prefixes() {
 }
 
 fn samples() {
-    show(b"S1", b"\x01\x01\x02\x01\x03\x03\x00\x03\x01\x04\x05");
-    show(
-        b"S2",
-        b"\x01\x02\x02\x01\x03\x03\x00\x02\x02\x01\x05\x00\x03\x01\x04\x05",
-    );
-    show(b"S6", b"\x01\x01\x02\x01\x00\x00\x00\x04\x05");
-    show(
-        b"S7",
-        b"\x01\x01\x02\x01\x01\x00\x00\x02\x01\x04\x00\x00\x03\x01\x04\x05",
-    );
-    show(b"S9", b"\x01\x01\x02\x01\x02\x02\x00\x04\x05");
-    show(
-        b"S10",
-        b"\x01\x02\x02\x01\x01\x02\x00\x03\x02\x04\x02\x02\x03\x03\x00\x03\x01\x04\x05",
-    );
-    show(
-        b"S11",
-        b"\x01\x02\x02\x01\x03\x01\x00\x02\x02\x01\xa0\x0f\x03\x01\x04\x05",
-    );
+    show(b"S1", &testkit::S1);
+    show(b"S2", &testkit::S2);
+    show(b"S6", &testkit::S6);
+    show(b"S7", &testkit::S7);
+    show(b"S9", &testkit::S9);
+    show(b"S10", &testkit::S10);
+    show(b"S11", &testkit::S11);
 }
 
 fn main() {
@@ -228,7 +165,9 @@ fn main() {
     numbers();
     ends();
     two_faults();
-    limits();
+    guards();
+    steps();
+    long();
     prefixes();
     samples();
 }

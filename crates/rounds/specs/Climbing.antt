@@ -1,5 +1,5 @@
--- The count of rounds by doubling, on the cells of a program.
-use mathlib.Core.Path.{_≡_, refl, sym, ap, _∙_, subst}
+-- The count of rounds by doubling, on the cells of a program: what the search finds, and rounds joined.
+use mathlib.Core.Path.{_≡_, sym, subst}
 use mathlib.Core.Bool.{Bool, true, false}
 use mathlib.Core.List.{List}
 use Prim.Native.Nat.{ℕ, suc, _+_, _^_, _≤_, _<_}
@@ -12,13 +12,12 @@ use Rattle.runs.specs.Run.{copies}
 use Rattle.runs.specs.Copies.{copies-add, length-copies, fairs-copies}
 use Rattle.zones.specs.Bound.{none}
 use Rattle.zones.specs.Matrix.{Matrix, Solves}
-use Rattle.zones.specs.Extend.{solve}
 use Rattle.zones.specs.Linear.{AllWithin}
 use Rattle.zones.specs.Cells.{matrix, answer}
 use Rattle.effects.specs.Describes.{Describes}
-use Rattle.effects.specs.Begins.{Begins, no-run, begins-is}
+use Rattle.effects.specs.Begins.{Begins}
 use Rattle.effects.specs.Count.{limit}
-use Rattle.effects.specs.Climb.{Known, twice, known-top, known-more, known-same}
+use Rattle.effects.specs.Climb.{Known, twice}
 use Rattle.joins.specs.Tells.{Tells, Sized, effect-within}
 use Rattle.joins.specs.Joining.{joinOf, join-tells}
 
@@ -44,13 +43,10 @@ pub record Counted (D : Matrix) (τ : List Step) (i c : ℕ) (cells : List ℕ) 
   pub some : 0 < c
   pub small : c + 2 ^ i ≤ limit
 
--- What the search finds from 2 ^ i rounds on: that the limit of rounds runs, or a count up to 2 ^ i.
+-- What the search finds from 2 ^ i rounds on: that every number of rounds runs, or a count up to 2 ^ i.
 pub record Climbs (D : Matrix) (τ : List Step) (i : ℕ) (endless : Bool) (c : ℕ) (cells : List ℕ) : Type 0 where
-  pub on : endless ≡ true → Begins D (copies τ limit)
+  pub on : endless ≡ true → (m : ℕ) → Begins D (copies τ m)
   pub counted : endless ≡ false → Counted D τ i c cells
-
-clash : (b : Bool) → b ≡ true → b ≡ false → ⊥
-clash b p q = let z : _≡_ {A = ℕ} 0 1 = cc in omega arith
 
 -- ---- Rounds joined
 
@@ -78,15 +74,16 @@ module _ {τ : List Step} {j k : ℕ} {A B : List ℕ} (a : Rounds τ j A) (b : 
       (join-tells (sized-rounds (a .table) j pj hj) (sized-rounds (a .table) k pk hk) A B (a .describes) (b .describes)
       ok z e)
 
--- ---- The search, where every start is allowed
+-- ---- A matrix that allows every start
 
--- There is a matrix that allows them all.
 pub anywhere : Matrix
 anywhere a b = none
 
 pub anywhere-free : Free anywhere
 unfolding anywhere
 anywhere-free P x p a b ha hb = record { holds = tt }
+
+-- ---- The powers of two up to the limit
 
 pub power-limit : (i : ℕ) → i ≤ 24 → 2 ^ i ≤ limit
 power-limit i h = pow-le-pow-right (omega arith) h
@@ -98,66 +95,3 @@ power-double i p h e =
 
 pub power-some : (i p : ℕ) → p ≡ 2 ^ i → 0 < p
 power-some i p e = rw e (one-le-pow i 2 (omega arith))
-
-module _ (D : Matrix) (free : Free D) {τ : List Step} where
-  -- Rounds that have an effect run from some start.
-  effect-begins : {k : ℕ} {cells : List ℕ} → Rounds τ k cells → Begins D (copies τ k)
-  effect-begins {k} {cells} h =
-      begins-is D (copies τ k) (matrix cells) (fairs-copies τ k (h .table .fair)) (h .describes) (matrix cells)
-      (record { is = λ P x p. ((λ s. (s, free P x p)), λ s. s .0) }) .0 (solve 14 (matrix cells) (h .describes .closed))
-
-  module _ (i p : ℕ) (e : p ≡ 2 ^ i) {E : List ℕ} (h : Rounds τ p E) where
-    -- At the limit it stops,
-    pub climbs-limit : i ≡ 24 → (c : ℕ) (z : List ℕ) → Climbs D τ i true c z
-    climbs-limit q c z = record {
-      on = λ t. rw (e ∙ ap (λ n. 2 ^ n) q) at (effect-begins h);
-      counted = λ t. absurd (clash true refl t);
-    }
-
-    -- where twice as many rounds do not run, it counts these;
-    pub climbs-top : i < 24 → (ok : Bool) (z : List ℕ) → Tells (copies τ (p + p)) ok z → ok ≡ false
-        → Climbs D τ i false p E
-    climbs-top l ok z t n = record {
-      on = λ q. absurd (clash false q refl);
-      counted = λ q. record {
-        known = rw e (known-top D τ i (rw e at (effect-begins h)) (no-run D (rw e at (t .stuck n))));
-        effect = h;
-        some = power-some i p e;
-        small = omega (arith, power-double i p l e);
-      };
-    }
-
-    module _ (up : Bool) (c : ℕ) (A : List ℕ) (above : Climbs D τ (i + 1) up c A) where
-      -- where they run without end, so do these;
-      pub climbs-on : up ≡ true → Climbs D τ i up c A
-      climbs-on q = record { on = above .on; counted = λ t. absurd (clash up q t) }
-
-      module _ (off : up ≡ false) (ok : Bool) (z : List ℕ) (t : Tells (copies τ (c + p)) ok z) where
-        k : Counted D τ (suc i) c A
-        k = rw (add-one i) at (above .counted off)
-
-        -- else it counts these too, if they run as well.
-        pub climbs-more : ok ≡ true → Climbs D τ i false (c + p) z
-        climbs-more q = record {
-          on = λ t. absurd (clash false t refl);
-          counted = λ _. record {
-            known = rw e (known-more D τ i c (k .known) (rw e at (effect-begins more)));
-            effect = more;
-            some = omega (arith, k .some);
-            small = omega (arith, k .small, twice i);
-          };
-        }
-          where
-            more : Rounds τ (c + p) z
-            more = record { table = h .table; describes = t .runs q }
-
-        pub climbs-same : ok ≡ false → Climbs D τ i up c A
-        climbs-same q = record {
-          on = above .on;
-          counted = λ _. record {
-            known = known-same D τ i c (k .known) (no-run D (rw e at (t .stuck q)));
-            effect = k .effect;
-            some = k .some;
-            small = omega (arith, k .small, twice i);
-          };
-        }

@@ -14,7 +14,7 @@ use Rattle.runs.specs.Tools.{every-nil}
 use Rattle.zones.specs.Matrix.{Matrix}
 use Rattle.effects.specs.Demands.{each, every-each, matrix-is}
 use Rattle.effects.specs.Begins.{Begins, no-run}
-use Rattle.effects.specs.Count.{limit, unending}
+use Rattle.effects.specs.Count.{limit}
 use Rattle.effects.specs.Climb.{rounds-one, Known, known-none, known-count}
 use Rattle.effects.specs.Rounds.{startMatrix, permits, exists-begins, rounds-exist, any-exists}
 use Rattle.joins.specs.Tells.{Tells}
@@ -81,10 +81,10 @@ module _ (n : ℕ) (b : n < 7) (τ : List Step) (t : Tabled τ) where
   counts-one ok z h e = record { table = t; describes = rounds-one (h .runs e) }
 
   module _ (endless : Bool) (c : ℕ) (z : List ℕ) (h : Climbs (starts n) τ 0 endless c z) where
-    -- The limit of rounds runs, so every number of rounds does,
+    -- Every number of rounds runs,
     pub counts-endless : endless ≡ true → Counts n τ Endless
     counts-endless e = record {
-      runs = λ k. ((λ r. tt), λ u. exists-is k .1 (unending (starts n) τ (t .fair) (t .some) (h .on e) k));
+      runs = λ k. ((λ r. tt), λ u. exists-is k .1 (h .on e k));
       small = λ c q. absurd (never c q);
     }
       where

@@ -1,7 +1,9 @@
 -- what is answered
 pub mod Answer
 -- the search
+pub mod LeftPart
 pub mod Climbing
+pub mod Cases
 pub mod Searching
 -- from the search to the answer
 pub mod Counting

@@ -14,10 +14,11 @@ use Rattle.zones.specs.Cells.{matrix, answer}
 use Rattle.effects.specs.Count.{limit}
 use Rattle.joins.specs.Tells.{Tells}
 use Rattle.joins.specs.Joining.{joinOf}
+use Rattle.rounds.specs.LeftPart.{SameLeft}
 use Rattle.rounds.specs.Climbing.{Free, anywhere, anywhere-free, Rounds, Counted, Climbs}
 use Rattle.rounds.specs.Climbing.{rounds-joinable, rounds-tell}
 use Rattle.rounds.specs.Climbing.{power-limit, power-some, power-double}
-use Rattle.rounds.specs.Climbing.{climbs-limit, climbs-top, climbs-on, climbs-more, climbs-same}
+use Rattle.rounds.specs.Cases.{climbs-limit, climbs-settled, climbs-top, climbs-on, climbs-more, climbs-same}
 
 -- What the search finds for every table of which the cells are the effect of p rounds, from any start.
 pub record Searched (i p : ℕ) (cells : List ℕ) (endless : Bool) (c : ℕ) (found : List ℕ) : Type 0 where
@@ -56,8 +57,8 @@ module _ {i p : ℕ} (w : Power i p) where
   some = power-some i p (w .is)
 
   -- The limit of rounds runs.
-  pub searched-limit : i ≡ 24 → (E : List ℕ) (c : ℕ) → Searched i p E true c E
-  searched-limit q E c = record { finds = λ D free τ h. climbs-limit D free i p (w .is) h q c E }
+  pub searched-limit : i ≡ 24 → (E : List ℕ) (up : Bool) → up ≡ true → (c : ℕ) (z : List ℕ) → Searched i p E up c z
+  searched-limit q E up t c z = record { finds = λ D free τ h. climbs-limit D free i p (w .is) h up t c z q }
 
   -- The effect may be joined with itself.
   pub twice-joinable : (E : List ℕ) → OfRounds p E → AllWithin 14 (2 ^ 52) (matrix E) × AllWithin 14 (2 ^ 52) (matrix E)
@@ -80,12 +81,21 @@ module _ {i p : ℕ} {E : List ℕ} {ok : Bool} {z : List ℕ} (d : Doubled i p 
         climbs-top D free i p (d .power .is) h (omega (arith, d .power .low, d .below)) ok z (tells h) q;
   }
 
-  -- or have an effect.
+  -- or have an effect;
   twice-rounds : ok ≡ true → {τ : List Step} → Rounds τ p E → Rounds τ (p + p) z
   twice-rounds q h = record { table = h .table; describes = tells h .runs q }
 
   pub twice-of : ok ≡ true → OfRounds p E → OfRounds (p + p) z
   twice-of q (τ, h) = (τ, twice-rounds q h)
+
+  -- and where it leaves the left part as it was, every number of rounds runs.
+  pub searched-settled : ok ≡ true → SameLeft E z → (up : Bool) → up ≡ true → (c : ℕ) (Z : List ℕ)
+      → Searched i p E up c Z
+  searched-settled q s up t c Z = record {
+    finds = λ D free τ h.
+        climbs-settled D free i p (d .power .is) h up t c Z (p + p) z (omega (arith, some (d .power)))
+        (twice-rounds q h) s;
+  }
 
 -- ---- On the way back
 

@@ -7,10 +7,13 @@ use table::Table;
 use wire::parse;
 use zones::Matrix;
 ghost use mathlib.Core.Path.{_≡_};
+ghost use mathlib.Core.Bool.{true};
+ghost use mathlib.Core.Logic.{_↔_};
 ghost use Prim.Native.Nat.{_≤_, _^_};
 ghost use Rattle.table.specs.Step.{stepsOf, Good};
 ghost use Rattle.wire.specs.Reading.{readOf};
 ghost use Rattle.rounds.specs.Answer.{Counts, Answers};
+ghost use Rattle.rounds.specs.LeftPart.{SameLeft};
 ghost use Rattle.rounds.specs.Searching.{OfRounds, Searched};
 
 // The answer: the greatest number of rounds that has a run, that every number has one, or a refusal.
@@ -27,17 +30,40 @@ pub struct Climbed {
     pub zone: Matrix,
 }
 
-// From the effect e of 2^i rounds up: doubled as far as runs exist, and on the way back added where the sum still runs.
+// That every number of rounds has a run. Nothing is counted, and the effect in hand stays.
+fn without_end(e: Matrix) -> Climbed
+    ensures { λ r. ⌜ (r .endless ≡ true) × (r .count ≡ 0) × (r .zone .cells ≡ e .cells) ⌝ }
+{
+    Climbed {
+        endless: true,
+        count: 0,
+        zone: e,
+    }
+}
+
+// Whether the left parts of two effects, the cells among vertices 0 to 6, are the same.
+fn same_left(a: Matrix, b: Matrix) -> bool
+    ensures { λ r. ⌜ (r ≡ true) ↔ SameLeft (a .cells) (b .cells) ⌝ }
+{
+    let mut k: usize = 0;
+    while k < 49 {
+        let at = k / 7 * 21 + k % 7;
+        if a.cells[at] != b.cells[at] {
+            return false;
+        }
+        k += 1;
+    }
+    true
+}
+
+// From the effect e of 2^i rounds up: doubled as far as runs exist and the left part still changes, and on the way back
+// added where the sum still runs. The left part tells from where the rounds run: once it stays, they run without end.
 fn climb(e: Matrix, i: u64, power: u64) -> Climbed
     requires { ⌜ (i ≤ 24) × (power ≡ 2 ^ i) × OfRounds power (e .cells) ⌝ }
     ensures { λ r. ⌜ Searched i power (e .cells) (r .endless) (r .count) (r .zone .cells) ⌝ }
 {
     if i == 24 {
-        return Climbed {
-            endless: true,
-            count: 0,
-            zone: e,
-        };
+        return without_end(e);
     }
     let twice = join(e, e);
     if !twice.ok {
@@ -48,6 +74,9 @@ fn climb(e: Matrix, i: u64, power: u64) -> Climbed
         };
     }
     let double = twice.zone;
+    if same_left(e, double) {
+        return without_end(e);
+    }
     let above = climb(double, i + 1, power + power);
     if above.endless {
         return above;

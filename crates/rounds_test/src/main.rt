@@ -1,78 +1,37 @@
 // Counts the rounds of tables, and prints each answer.
-use libc::STDOUT_FILENO;
 use rounds::Count;
-
-fn word(text: &[u8]) {
-    io::write_all(STDOUT_FILENO, text);
-}
-
-fn number(x: u64) {
-    io::print_decimal(STDOUT_FILENO, x);
-}
+use testkit::field;
+use testkit::refusal;
+use testkit::title;
+use testkit::word;
 
 // A name, and the answer on a table.
 fn show(name: &[u8], bytes: &[u8]) {
-    word(name);
-    word(b": ");
+    title(name);
     let answer = rounds::rounds(bytes);
     match answer {
-        Count::Finite(c) => {
-            word(b"rounds ");
-            number(c);
-        }
-        Count::Endless => {
-            word(b"rounds without end");
-        }
-        Count::Refused(r) => {
-            let fault = r.fault;
-            word(b"refused ");
-            number(table::number(fault));
-            word(b" at ");
-            number(r.place as u64);
-        }
+        Count::Finite(c) => field(b"rounds ", c),
+        Count::Endless => word(b"rounds without end"),
+        Count::Refused(why) => refusal(why),
     }
     word(b"\n");
 }
 
 fn samples() {
-    show(b"S1", b"\x01\x01\x02\x01\x03\x03\x00\x03\x01\x04\x05");
-    show(
-        b"S2",
-        b"\x01\x02\x02\x01\x03\x03\x00\x02\x02\x01\x05\x00\x03\x01\x04\x05",
-    );
-    show(
-        b"S3",
-        b"\x01\x02\x02\x01\x03\x03\x00\x02\x02\x00\x06\x00\x03\x01\x04\x05",
-    );
-    show(
-        b"S4",
-        b"\x01\x02\x02\x01\x03\x03\x00\x02\x02\x01\x06\x00\x03\x01\x04\x05",
-    );
-    show(
-        b"S5",
-        b"\x01\x02\x02\x01\x04\x00\x00\x02\x02\x01\x00\x00\x03\x01\x04\x05",
-    );
-    show(b"S6", b"\x01\x01\x02\x01\x00\x00\x00\x04\x05");
+    show(b"S1", &testkit::S1);
+    show(b"S2", &testkit::S2);
+    show(b"S3", &testkit::S3);
+    show(b"S4", &testkit::S4);
+    show(b"S5", &testkit::S5);
+    show(b"S6", &testkit::S6);
 }
 
 fn more_samples() {
-    show(
-        b"S7",
-        b"\x01\x01\x02\x01\x01\x00\x00\x02\x01\x04\x00\x00\x03\x01\x04\x05",
-    );
-    show(
-        b"S8",
-        b"\x01\x02\x02\x01\x04\x00\x00\x02\x02\x00\x01\x00\x03\x01\x04\x05",
-    );
-    show(b"S9", b"\x01\x01\x02\x01\x02\x02\x00\x04\x05");
-    show(
-        b"S10",
-        b"\x01\x02\x02\x01\x01\x02\x00\x03\x02\x04\x02\x02\x03\x03\x00\x03\x01\x04\x05",
-    );
-    show(
-        b"S11",
-        b"\x01\x02\x02\x01\x03\x01\x00\x02\x02\x01\xa0\x0f\x03\x01\x04\x05",
-    );
+    show(b"S7", &testkit::S7);
+    show(b"S8", &testkit::S8);
+    show(b"S9", &testkit::S9);
+    show(b"S10", &testkit::S10);
+    show(b"S11", &testkit::S11);
     show(b"a bare step", b"\x01\x01\x04\x05");
     show(b"no table", b"\x01\x01\x05");
 }
@@ -117,32 +76,12 @@ fn under_more() {
     lead(0, 160, 15);
 }
 
-// Six clocks and sixteen steps: step i waits for a clock to read at least 1 and resets it; the last step also bounds it.
+// Six clocks and sixteen steps, each of which waits for a clock and resets it; the last also bounds clock 6.
 fn wide(name: &[u8], relation: u8, constant: u8) {
-    let mut t = [4u8; 136];
-    let mut i: usize = 0;
-    while i < 16 {
-        let clock = (i % 6 + 1) as u8;
-        t[2 + 8 * i] = 2;
-        t[3 + 8 * i] = clock;
-        t[4 + 8 * i] = 3;
-        t[5 + 8 * i] = 1;
-        t[6 + 8 * i] = 0;
-        t[7 + 8 * i] = 3;
-        t[8 + 8 * i] = clock;
-        i += 1;
-    }
-    let mut u = t;
-    u[0] = 1;
-    u[1] = 6;
-    u[129] = 2;
-    u[130] = 6;
-    u[131] = relation;
-    u[132] = constant;
-    u[133] = 0;
-    u[134] = 4;
-    u[135] = 5;
-    show(name, &u);
+    let tail: [u8; 7] = [2, 6, relation, constant, 0, 4, 5];
+    let mut bytes = [0u8; 136];
+    testkit::wide(&mut bytes, &tail);
+    show(name, &bytes);
 }
 
 fn main() {

@@ -10,8 +10,8 @@ use borrow.Author.Tests.{eqb-true, ltb-true, leb-true, le-leb, lt-leb}
 use Rattle.table.specs.Step.{Step}
 use Rattle.runs.specs.Run.{Run}
 use Rattle.runs.specs.declared.Demand.{Demand}
-use Rattle.runs.specs.Demand.{anyStarts, demands, Allowed, Clocks, Places}
-use Rattle.runs.specs.DemandRange.{any-proper}
+use Rattle.runs.specs.Demand.{anyStarts, demands, Allowed, Clocks}
+use Rattle.runs.specs.Allowed.{any-places}
 use Rattle.runs.specs.Satisfies.{Satisfies}
 use Rattle.runs.specs.Rows.{Row, run-satisfies, rowAt, row-is, run-row}
 use Rattle.runs.specs.Tools.{top, top-ge}
@@ -27,9 +27,6 @@ pub clocked-clocks : (n : ℕ) (σ : List Step) → clocked n σ ≡ true → Cl
 clocked-clocks n σ e c m g i =
     let (low, high) = both (all-every _ (c .guards) (all-every _ σ e c m) g i) in
     (ltb-true 0 (g .clock) low, leb-true (g .clock) n high)
-
-pub any-places : (n : ℕ) → Places n anyStarts
-any-places n j p l d m = let h = any-proper n j d m in (h .from, h .to)
 
 -- a row of times of the moments t and starts s, with moment 0 at S
 abbrev pub times : ℕ → ℕ → (ℕ → ℕ) → (ℕ → ℕ) → ℕ → ℕ

@@ -17,20 +17,17 @@ word-requires c κs = search needs
 loop-holds : tie.Need-loop-holds Inv-loop μ-loop
 loop-holds c = search needs
 
-slice-aggregate-word : tie.Need-slice-aggregate-word Inv-loop μ-loop
-slice-aggregate-word c = search needs
+slice-aggregate-field : tie.Need-slice-aggregate-field Inv-loop μ-loop
+slice-aggregate-field c = search needs
 
-word-requires-2 : tie.Need-word-requires-2 Inv-loop μ-loop
-word-requires-2 c κs = search needs
+mul-field : tie.Need-mul-field Inv-loop μ-loop
+mul-field c = search needs
 
-mul-number : tie.Need-mul-number Inv-loop μ-loop
-mul-number c = search needs
+shared-slice-read-field : tie.Need-shared-slice-read-field Inv-loop μ-loop
+shared-slice-read-field c = search needs
 
-shared-slice-read-number : tie.Need-shared-slice-read-number Inv-loop μ-loop
-shared-slice-read-number c = search needs
-
-number-requires : tie.Need-number-requires Inv-loop μ-loop
-number-requires c κs = search needs
+field-requires : tie.Need-field-requires Inv-loop μ-loop
+field-requires c κs = search needs
 
 add-i : tie.Need-add-i Inv-loop μ-loop
 add-i c = search needs
@@ -41,11 +38,11 @@ loop-less c = search needs
 loop-again : tie.Need-loop-again Inv-loop μ-loop
 loop-again c = search needs
 
-slice-aggregate-word-2 : tie.Need-slice-aggregate-word-2 Inv-loop μ-loop
-slice-aggregate-word-2 c = search needs
+slice-aggregate-word : tie.Need-slice-aggregate-word Inv-loop μ-loop
+slice-aggregate-word c = search needs
 
-word-requires-3 : tie.Need-word-requires-3 Inv-loop μ-loop
-word-requires-3 c κs = search needs
+word-requires-2 : tie.Need-word-requires-2 Inv-loop μ-loop
+word-requires-2 c κs = search needs
 
 returns : tie.Need-returns Inv-loop μ-loop
 returns c = search needs
@@ -58,14 +55,13 @@ room-spec =
     μ-loop
     word-requires
     loop-holds
-    slice-aggregate-word
-    word-requires-2
-    mul-number
-    shared-slice-read-number
-    number-requires
+    slice-aggregate-field
+    mul-field
+    shared-slice-read-field
+    field-requires
     add-i
     loop-less
     loop-again
-    slice-aggregate-word-2
-    word-requires-3
+    slice-aggregate-word
+    word-requires-2
     returns)
