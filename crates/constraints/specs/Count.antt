@@ -77,7 +77,7 @@ table-few t i (suc n) good b =
     )
 
 -- ---- a clock has one
-starts-few : (K j n : ℕ) → length (startDemands K anyStarts j n) ≡ n
+pub starts-few : (K j n : ℕ) → length (startDemands K anyStarts j n) ≡ n
 unfolding startDemands anyStarts
 starts-few K j zero = refl
 starts-few K j (suc n) = ap suc (starts-few K (suc j) n)

@@ -2,6 +2,7 @@ pub mod Cursor
 pub mod Rest
 pub mod Constraints
 pub mod Count
+pub mod Number
 pub mod Moves
 pub mod Resets
 pub mod Rounds

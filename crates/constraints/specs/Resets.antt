@@ -30,6 +30,20 @@ module _ (flags : List Bool) (s i : ℕ) (z : List ℕ) where
   length-reset zero = refl
   length-reset (suc n) = length-set (resetTo flags s i z n) n (after n) ∙ length-reset n
 
+  -- a clock from n on has the one before the step
+  reset-later : (n j : ℕ) → n ≤ j → getD (resetTo flags s i z n) j 0 ≡ getD z j 0
+  unfolding resetTo
+  reset-later zero j l = refl
+  reset-later (suc n) j l =
+      getD-set-other (resetTo flags s i z n) n j (after n) 0 (omega arith) ∙ reset-later n j (omega arith)
+
+  -- one clock more, in place
+  pub reset-stored : (j : ℕ) (out : List ℕ) (v : ℕ) → out ≡ resetTo flags s i z j
+      → v ≡ cond (getD flags (7 * s + j) false) i (getD out j 0) → set out j v ≡ resetTo flags s i z (j + 1)
+  reset-stored j out v e f =
+      reset-more j out v e
+      (f ∙ ap (cond (getD flags (7 * s + j) false) i) (ap (λ l. getD l j 0) e ∙ reset-later j j (omega arith)))
+
   -- each clock below n has its own
   reset-at : (n j : ℕ) → n ≤ length z → j < n → getD (resetTo flags s i z n) j 0 ≡ after j
   unfolding resetTo

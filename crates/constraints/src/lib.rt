@@ -104,7 +104,7 @@ fn demand(from: usize, to: usize, up: u64, down: u64, strict: bool) -> Demand
 }
 
 // The first or the second demand of a guard at moment i, when its clock was last reset at moment z.
-fn guard_demand(relation: Relation, constant: u64, z: usize, i: usize, second: bool) -> Demand
+pub fn guard_demand(relation: Relation, constant: u64, z: usize, i: usize, second: bool) -> Demand
     ensures { λ r. ⌜ r ≡ guardDemand relation constant z i second ⌝ }
 {
     match relation {
@@ -144,14 +144,14 @@ pub fn current(total: usize, guard: Guard, c: Cursor) -> Demand
 }
 
 // `a` where the flag is set, else `b`.
-fn choose(flag: bool, a: usize, b: usize) -> usize
+pub fn choose(flag: bool, a: usize, b: usize) -> usize
     ensures { λ r. ⌜ r ≡ cond flag a b ⌝ }
 {
     if flag { a } else { b }
 }
 
 // The last resets after a step at a moment.
-fn reset_at(flags: &[bool; 119], step: usize, moment: usize, resets: [usize; 7]) -> [usize; 7]
+pub fn reset_at(flags: &[bool; 119], step: usize, moment: usize, resets: [usize; 7]) -> [usize; 7]
     requires { ⌜ (length (now flags) ≡ 119) × (step ≤ 16) ⌝ }
     ensures { λ r. ⌜ r ≡ resetOf (now (flags .entry)) step moment resets ⌝ }
 {
@@ -201,7 +201,7 @@ fn advance(
 }
 
 // Whether a guard has two demands.
-fn twice(relation: Relation) -> bool
+pub fn twice(relation: Relation) -> bool
     ensures { λ r. ⌜ r ≡ twiceOf relation ⌝ }
 {
     match relation {

@@ -1,7 +1,7 @@
 -- Small numbers as signed ones: none of them wraps.
 use mathlib.Core.Path.{_≡_, sym, _∙_, subst, ap}
 use mathlib.Core.Bool.{Bool, true, false, cond}
-use Prim.Native.Nat.{ℕ, zero, suc, _-_, _*_, _^_, _≤_, _<_}
+use Prim.Native.Nat.{ℕ, zero, suc, _-_, _≤_}
 use native.Mathlib.Omega.{arith}
 use lib.Dec.{ltb}
 use lib.IntN.{ℤ, pos, negsuc, _-ℤ_}
@@ -37,7 +37,3 @@ module _ (a b : ℕ) (h : a ≤ 4000) (k : b ≤ 4000) where
 
   pub difference : toZ w64 (ofZ w64 (toZ w64 a -ℤ toZ w64 b)) ≡ pos a -ℤ pos b
   difference = toZ-ofZ w64 _ difference-fits ∙ same
-
--- the place of a guard in the table's array, in bytes
-pub guard-place : (n : ℕ) → n < 64 → n * 24 < 2 ^ 64
-guard-place n h = omega arith

@@ -3,6 +3,10 @@ pub mod Listed
 pub mod Accepted
 pub mod Answer
 pub mod Tally
+pub mod Writing
 pub mod Passed
+pub mod Ends
+pub mod Steps
+pub mod Pieces
 pub mod Fill
 pub mod Fit

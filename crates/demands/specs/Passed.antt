@@ -1,99 +1,85 @@
--- The row while demands are written to it, one after the other: what is still to be written makes it the row at exit.
-use mathlib.Core.Path.{_≡_, refl, sym, _∙_, ap}
-use mathlib.Core.List.{List, [], _∷_, _++_}
-use Prim.Native.Nat.{ℕ, suc, _+_, _*_, _≤_, _<_}
+-- The row while the demands of k rounds are written to it: how far it is.
+use mathlib.Core.Path.{_≡_, sym, ap}
+use mathlib.Core.Bool.{Bool, true, false, false≢true, cond}
+use mathlib.Core.List.{List, _++_}
+use Prim.Native.Nat.{ℕ, _+_, _*_, _≤_, _<_}
 use native.Mathlib.Omega.{arith}
+use borrow.Author.Tests.{eq-eqb, ne-eqb}
+use lib.Dec.{eqb}
 use lib.IntN.{ℤ}
-use lib.ListN.{length, drop, length-append}
-use lib.Seq.{sets, sets-eq, length-sets}
-use Rattle.table.specs.declared.Guard.{Guard}
+use lib.ListN.{length, getD, drop}
+use Rattle.table.specs.Step.{stepsOf}
 use Rattle.table.specs.declared.Table.{Table}
+use Rattle.runs.specs.Run.{copies}
 use Rattle.runs.specs.declared.Demand.{Demand}
-use Rattle.runs.specs.DemandRange.{Proper}
-use Rattle.constraints.specs.declared.Cursor.{Cursor}
-use Rattle.constraints.specs.Cursor.{firstOf}
-use Rattle.constraints.specs.Rest.{demandsOf, rest}
-use Rattle.constraints.specs.Constraints.{At, Moved, dueAt, nextAt, rest-first, at-first, rest-done, move, all-proper}
-use Rattle.constraints.specs.Count.{demands-bounded}
-use Rattle.demands.specs.Lines.{cellsOf, cells, over, Small}
-use Rattle.demands.specs.Accepted.{Ready}
+use Rattle.runs.specs.Demand.{stepsDemands, startDemands, anyStarts}
+use Rattle.constraints.specs.Cursor.{begun, resetOf}
+use Rattle.constraints.specs.Rest.{demandsOf, guardsFrom}
+use Rattle.demands.specs.Writing.{Left}
 
-pub length-cells : (ds : List Demand) → length (cells ds) ≡ 4 * length ds
-unfolding cells
-length-cells [] = refl
-length-cells (d ∷ ds) = omega (arith, length-append (cellsOf d) (cells ds), length-cells ds)
+-- the number of the step after step s, when a round has L steps
+abbrev pub followingOf : ℕ → ℕ → ℕ
+followingOf L s = cond (eqb (s + 1) L) 0 (s + 1)
 
--- a run of stores from place 0 on
-sets-over : (ds : List Demand) (row : List ℤ) → 4 * length ds ≤ length row → sets row 0 (cells ds) ≡ over (cells ds) row
-sets-over ds row h =
-    let e : 0 + length (cells ds) ≡ length (cells ds) = omega arith in
-    sets-eq (cells ds) row 0 (omega (arith, length-cells ds)) ∙ ap (λ n. cells ds ++ drop n row) e
+pub following-round : (L s : ℕ) → s + 1 ≡ L → followingOf L s ≡ 0
+following-round L s e = ap (λ b. cond b 0 (s + 1)) (eq-eqb (s + 1) L e)
 
--- the row, which was `old`, when the demands before the cursor c stand in its first q places
-pub record Passed (t : Table) (k : ℕ) (old : List ℤ) (c : Cursor) (q : ℕ) (row : List ℤ) : Type 0 where
-  pub at : At t k c
-  pub long : length row ≡ length old
-  pub sum : q + 4 * length (rest t k c) ≡ 4 * length (demandsOf t k)
-  pub room : 4 * length (demandsOf t k) ≤ length old
-  pub due : sets row q (cells (rest t k c)) ≡ over (cells (demandsOf t k)) old
+pub following-on : (L s : ℕ) → (s + 1 ≡ L → ⊥) → followingOf L s ≡ s + 1
+following-on L s e = ap (λ b. cond b 0 (s + 1)) (ne-eqb (s + 1) L e)
 
-module _ {t : Table} {k : ℕ} (ready : Ready t k) where
-  -- ---- at first, and in the end
-  pub passed-first : {c : Cursor} (row : List ℤ) → 4 * length (demandsOf t k) ≤ length row → c ≡ firstOf (k * t .steps)
-      → Passed t k row c 0 row
-  passed-first {c} row h e =
-      let left : rest t k c ≡ demandsOf t k = ap (rest t k) e ∙ rest-first t k (ready .sound .good) (ready .some) in
-      record {
-        at = rw e (at-first t k (ready .sound .good) (ready .some));
-        long = refl;
-        sum = omega (arith, ap length left);
-        room = h;
-        due = ap (λ ds. sets row 0 (cells ds)) left ∙ sets-over (demandsOf t k) row h;
-      }
+-- the demands of the clocks' starts, and those of the steps after i steps and these
+abbrev pub startsDue : Table → ℕ → List Demand
+startsDue t k = startDemands (k * t .steps) anyStarts 1 (t .clocks)
 
-  module _ {old : List ℤ} {c : Cursor} {q : ℕ} {row : List ℤ} (p : Passed t k old c q row) where
-    pub passed-done : t .clocks < c .clock → row ≡ over (cells (demandsOf t k)) old
-    unfolding cells
-    passed-done l =
-        sym (ap (λ ds. sets row q (cells ds)) (rest-done t k (ready .sound .good) c (p .at) l)) ∙ p .due
+abbrev pub stepsDue : Table → ℕ → ℕ → List ℕ → List Demand
+stepsDue t k i z = stepsDemands (drop i (copies (stepsOf t) k)) i (λ j. getD z j 0)
 
-    -- ---- one demand more: a is the demand at c, and n the next cursor
-    module _ (d : Guard) {a : Demand} {n : Cursor} (l : c .clock ≤ t .clocks) (e : a ≡ dueAt t k d c)
-        (f : n ≡ nextAt t k d c) where
-      moved : Moved t k c a n
-      moved = move t k (ready .sound .good) c (p .at) d a n l e f
+-- the demands of the guards of step s, at moment i + 1, from place g on, and those of the steps after it
+abbrev pub guardsDue : Table → ℕ → ℕ → List ℕ → ℕ → List Demand
+guardsDue t s i z g = guardsFrom t (begun (i + 1) s z) g
 
-      pub due-room : q + 4 ≤ length row
-      due-room = omega (arith, ap length (moved .left), p .sum, p .room, p .long)
+abbrev pub laterDue : Table → ℕ → ℕ → ℕ → List ℕ → List Demand
+laterDue t k s i z = stepsDue t k (i + 1) (resetOf (t .resets) s (i + 1) z) ++ startsDue t k
 
-      pub due-few : q + 4 ≤ 4 * 132102
-      due-few =
-          omega (arith, ap length (moved .left), p .sum, demands-bounded t k (ready .sound .good) (ready .few))
+-- the row, which was `old`, when i steps are written to its first q places, and step s is next
+pub record Passed (t : Table) (k : ℕ) (old row : List ℤ) (q i s : ℕ) (z : List ℕ) : Type 0 where
+  pub round : ℕ
+  pub step : s < t .steps
+  pub steps : i ≡ round * t .steps + s
+  pub few : i ≤ k * t .steps
+  pub resets : length z ≡ 7
+  pub left : Left old 0 (demandsOf t k) row q (stepsDue t k i z ++ startsDue t k)
 
-      pub due-fewer : length (rest t k n) < length (rest t k c)
-      due-fewer = moved .fewer
+-- and when of step s its order demand is written too, and those of its guards before place g
+pub record Inside (t : Table) (k : ℕ) (old row : List ℤ) (q i s g : ℕ) (z : List ℕ) : Type 0 where
+  pub round : ℕ
+  pub step : s < t .steps
+  pub steps : i ≡ round * t .steps + s
+  pub few : i < k * t .steps
+  pub resets : length z ≡ 7
+  pub first : getD (t .ends) s 0 ≤ g
+  pub last : g ≤ getD (t .ends) (s + 1) 0
+  pub left : Left old 0 (demandsOf t k) row q (guardsDue t s i z g ++ laterDue t k s i z)
 
-      pub due-small : Small a
-      due-small =
-          let h : Proper (k * t .steps + t .clocks) a =
-          all-proper t k (ready .sound .good) (ready .sound .clocks) a (moved .listed) in
-          record {
-            from = omega (arith, h .from, ready .few, ready .sound .good .clocks-few);
-            to = omega (arith, h .to, ready .few, ready .sound .good .clocks-few);
-            up = h .up;
-            down = h .down;
-          }
+-- the two, by whether the order demand is next
+pub data Going (t : Table) (k : ℕ) (old row : List ℤ) (q i s g : ℕ) (z : List ℕ) : Bool → Type 0 where
+  outside : Passed t k old row q i s z → g ≡ getD (t .ends) s 0 → Going t k old row q i s g z true
+  inside : Inside t k old row q i s g z → Going t k old row q i s g z false
 
-      pub passed-next : {row′ : List ℤ} → row′ ≡ sets row q (cellsOf a) → Passed t k old n (q + 4) row′
-      unfolding cells
-      passed-next {row′} w =
-          let four : q + 4 ≡ suc (suc (suc (suc q))) = omega arith in
-          let same : length row′ ≡ length row = ap length w ∙ length-sets row q (cellsOf a) in
-          record {
-            at = moved .at;
-            long = same ∙ p .long;
-            sum = omega (arith, ap length (moved .left), p .sum);
-            room = p .room;
-            due = (λ i. sets (w i) (four i) (cells (rest t k n)))
-                ∙ sym (ap (λ ds. sets row q (cells ds)) (moved .left)) ∙ p .due;
-          }
+-- ---- the two told apart
+module _ {t : Table} {k : ℕ} {old row : List ℤ} {q i s g : ℕ} {z : List ℕ} where
+  pub as-outside : {b : Bool} → Going t k old row q i s g z b → b ≡ true
+      → Passed t k old row q i s z × (g ≡ getD (t .ends) s 0)
+  as-outside (outside p e) h = (p, e)
+  as-outside (inside p) h = absurd (false≢true h)
+
+  pub as-inside : {b : Bool} → Going t k old row q i s g z b → b ≡ false → Inside t k old row q i s g z
+  as-inside (outside p e) h = absurd (false≢true (sym h))
+  as-inside (inside p) h = p
+
+  pub as-done : {b : Bool} → Going t k old row q i s g z b → k * t .steps ≤ i → Passed t k old row q i s z
+  as-done (outside p e) h = p
+  as-done (inside p) h = absurd (omega (arith, p .few))
+
+  pub going-inside : {b : Bool} → b ≡ false → Inside t k old row q i s g z → Going t k old row q i s g z b
+  going-inside h p = rw h (inside p)

@@ -1,45 +1,68 @@
--- The number of demands while they are counted, one after the other.
-use mathlib.Core.Path.{_≡_, refl, ap, _∙_}
-use Prim.Native.Nat.{ℕ, _+_, _*_, _≤_, _<_}
+-- The number of demands of a round while its guards are counted, one after the other.
+use mathlib.Core.Path.{_≡_, refl, sym, ap, _∙_}
+use Prim.Native.Nat.{ℕ, suc, _+_, _*_, _≤_, _<_}
+use native.Mathlib.Numerals.{add-one}
+use native.Mathlib.Nat.{mul-le-mul-right}
 use native.Mathlib.Omega.{arith}
-use lib.ListN.{length}
+use lib.ListN.{length, getD}
+use lib.Seq.{slice, slice-empty, slice-cons}
 use Rattle.table.specs.declared.Guard.{Guard}
 use Rattle.table.specs.declared.Table.{Table}
-use Rattle.constraints.specs.declared.Cursor.{Cursor}
-use Rattle.constraints.specs.Cursor.{firstOf}
-use Rattle.constraints.specs.Rest.{demandsOf, rest}
-use Rattle.constraints.specs.Constraints.{At, Moved, dueAt, nextAt, rest-first, at-first, rest-done, move}
+use Rattle.constraints.specs.Rest.{demandsOf}
 use Rattle.constraints.specs.Count.{demands-bounded}
+use Rattle.constraints.specs.Number.{guardNumber, guardsNumber, guards-nil, guards-cons, ends-order, demands-number}
 use Rattle.demands.specs.Accepted.{Ready}
 
--- n demands are before the cursor c
-pub record Tallied (t : Table) (k : ℕ) (c : Cursor) (n : ℕ) : Type 0 where
-  pub at : At t k c
-  pub sum : n + length (rest t k c) ≡ length (demandsOf t k)
+-- the place after the last guard, and the demands of the guards from a place on
+abbrev guardsEnd : Table → ℕ
+guardsEnd t = getD (t .ends) (t .steps) 0
+
+abbrev numberFrom : Table → ℕ → ℕ
+numberFrom t place = guardsNumber (slice place (guardsEnd t) (t .guards))
+
+-- n of a round's demands are counted: one for each step, and those of the guards before a place
+pub record Tallied (t : Table) (n place : ℕ) : Type 0 where
+  pub last : place ≤ guardsEnd t
+  pub room : guardsEnd t ≤ 64
+  pub sum : n + numberFrom t place ≡ t .steps + numberFrom t (getD (t .ends) 0 0)
 
 module _ {t : Table} {k : ℕ} (ready : Ready t k) where
-  pub tallied-first : {c : Cursor} → c ≡ firstOf (k * t .steps) → Tallied t k c 0
-  tallied-first {c} e =
-      let left = ap (rest t k) e ∙ rest-first t k (ready .sound .good) (ready .some) in
+  pub tallied-first : Tallied t (t .steps) (getD (t .ends) 0 0)
+  tallied-first =
+      let e : 0 + t .steps ≡ t .steps = omega arith in
       record {
-        at = rw e (at-first t k (ready .sound .good) (ready .some));
-        sum = omega (arith, ap length left);
+        last = rw e at (ends-order t (ready .sound .good) 0 (t .steps) (omega arith));
+        room = ready .sound .good .room (t .steps) (omega arith);
+        sum = refl;
       }
 
-  module _ {c : Cursor} {n : ℕ} (p : Tallied t k c n) where
+  module _ {n place : ℕ} (p : Tallied t n place) where
     pub tallied-few : n ≤ 132102
-    tallied-few = omega (arith, p .sum, demands-bounded t k (ready .sound .good) (ready .few))
+    tallied-few =
+        omega (
+          arith,
+          p .sum,
+          mul-le-mul-right (t .steps + numberFrom t (getD (t .ends) 0 0)) (ready .some),
+          demands-number t (ready .sound .good) k,
+          demands-bounded t k (ready .sound .good) (ready .few),
+        )
 
-    pub tallied-done : t .clocks < c .clock → n ≡ length (demandsOf t k)
-    tallied-done l = omega (arith, p .sum, ap length (rest-done t k (ready .sound .good) c (p .at) l))
+    pub tallied-done : guardsEnd t ≤ place → k * n + t .clocks ≡ length (demandsOf t k)
+    tallied-done l =
+        let e : place ≡ guardsEnd t = omega (arith, p .last) in
+        let none : numberFrom t place ≡ 0 =
+        ap (numberFrom t) e ∙ ap guardsNumber (slice-empty (guardsEnd t) (t .guards)) ∙ guards-nil in
+        let all : n ≡ t .steps + numberFrom t (getD (t .ends) 0 0) = omega (arith, p .sum) in
+        ap (λ m. k * m + t .clocks) all ∙ sym (demands-number t (ready .sound .good) k)
 
-    -- one demand more, at the next cursor
-    module _ (d : Guard) {c′ : Cursor} (l : c .clock ≤ t .clocks) (f : c′ ≡ nextAt t k d c) where
-      moved : Moved t k c (dueAt t k d c) c′
-      moved = move t k (ready .sound .good) c (p .at) d (dueAt t k d c) c′ l refl f
-
-      pub tallied-fewer : length (rest t k c′) < length (rest t k c)
-      tallied-fewer = moved .fewer
-
-      pub tallied-next : Tallied t k c′ (n + 1)
-      tallied-next = record { at = moved .at; sum = omega (arith, p .sum, ap length (moved .left)) }
+    -- one guard more
+    pub tallied-next : (d : Guard) {m : ℕ} → place < guardsEnd t → m ≡ guardNumber (getD (t .guards) place d .relation)
+        → Tallied t (n + m) (place + 1)
+    tallied-next d {m} l e =
+        let g = getD (t .guards) place d in
+        let more : numberFrom t place ≡ m + numberFrom t (place + 1) =
+        ap guardsNumber
+        (slice-cons place (guardsEnd t) (t .guards) d l (omega (arith, p .room, ready .sound .good .guards-size)))
+        ∙ guards-cons g (slice (suc place) (guardsEnd t) (t .guards))
+        ∙ λ i. sym e i + numberFrom t (sym (add-one place) i) in
+        record { last = omega arith; room = p .room; sum = omega (arith, p .sum) }

@@ -2,19 +2,27 @@
 // numbers, and to a lent list of records.
 use runs::Demand;
 use table::Fault;
+use table::Guard;
 use table::Read;
 use table::Refusal;
+use table::Relation;
 use table::Table;
 ghost use mathlib.Core.Path.{_≡_};
+ghost use mathlib.Core.Bool.{false};
+ghost use mathlib.Core.List.{[], _∷_};
 ghost use Prim.Native.Nat.{_+_, _*_, _/_, _≤_, _<_, min};
 ghost use lib.IntN.{pos};
 ghost use lib.ListN.{length};
 ghost use lib.Seq.{sets};
-ghost use Rattle.demands.specs.Lines.{boundOf, strictOf, cellsOf, cells, over, Small};
+ghost use Rattle.runs.specs.Demand.{plus, guardDemands, startDemands, anyStarts};
+ghost use Rattle.constraints.specs.Rest.{demandsOf};
+ghost use Rattle.constraints.specs.Number.{guardNumber};
+ghost use Rattle.demands.specs.Lines.{boundOf, strictOf, cells, over, Small};
 ghost use Rattle.demands.specs.Listed.{refusedFor, inRange, answerOf, listedOf, unlessRefused};
 ghost use Rattle.demands.specs.Listed.{rowRoom, listRoom, rowOf, listOf};
-ghost use Rattle.constraints.specs.Rest.{demandsOf};
 ghost use Rattle.demands.specs.Accepted.{Sound, Ready};
+ghost use Rattle.demands.specs.Writing.{Fits, Wrote};
+ghost use Rattle.demands.specs.Passed.{followingOf};
 ghost use Rattle.demands.specs.Fill.{natOf, countOf, lineAt, filled};
 
 // The answer: so many demands are written; or a refusal, and nothing is.
@@ -55,10 +63,10 @@ fn strict_of(strict: bool) -> i64
     if strict { 1 } else { 0 }
 }
 
-// Writes the four numbers of a demand at a place of the row.
-fn put(row: &mut [i64], q: usize, d: Demand)
-    requires { ⌜ (q + 4 ≤ length (now row)) × Small d ⌝ }
-    ensures { λ _. ⌜ now (row .exit) ≡ sets (now (row .entry)) q (cellsOf d) ⌝ }
+// Writes the four numbers of a demand at a place of the row, and gives the place after them.
+fn put(row: &mut [i64], q: usize, d: Demand) -> usize
+    requires { ⌜ Fits (now row) q (d ∷ []) ⌝ }
+    ensures { λ r. ⌜ Wrote (now (row .entry)) q (d ∷ []) (now (row .exit)) r ⌝ }
 {
     let from = signed(d.from);
     let to = signed(d.to);
@@ -68,6 +76,7 @@ fn put(row: &mut [i64], q: usize, d: Demand)
     row[q + 1] = to;
     row[q + 2] = bound;
     row[q + 3] = strict;
+    q + 4
 }
 
 // A refusal at place 0.
@@ -92,43 +101,127 @@ fn in_range(k: u64, steps: usize) -> bool
     rounds * steps <= 1024
 }
 
-// The number of demands of k rounds.
+// The number of demands of a guard.
+fn guard_number(relation: Relation) -> usize
+    ensures { λ r. ⌜ r ≡ guardNumber relation ⌝ }
+{
+    if constraints::twice(relation) { 2 } else { 1 }
+}
+
+// The number of demands of k rounds: in each, one for each step and those of its guards; and one for each clock.
 fn count(t: Table, k: usize) -> usize
     requires { ⌜ Ready t k ⌝ }
     ensures { λ r. ⌜ r ≡ length (demandsOf t k) ⌝ }
 {
-    let ends = t.ends;
-    let flags = t.resets;
-    let total = k * t.steps;
-    let mut c = constraints::first(total);
-    let mut n: usize = 0;
-    while c.clock <= t.clocks {
-        let place = c.guard;
+    let steps = t.steps;
+    let end = t.ends[steps];
+    let mut n = steps;
+    let mut place = t.ends[0];
+    while place < end {
         let guard = t.guards[place];
-        c = constraints::next(&ends, &flags, t.steps, total, guard, c);
-        n += 1;
+        let relation = guard.relation;
+        n += guard_number(relation);
+        place += 1;
     }
-    n
+    k * n + t.clocks
 }
 
-// Writes all demands of k rounds to the row.
+// Writes the one or two demands of a guard at moment i, when its clock was last reset at moment z.
+fn put_guard(row: &mut [i64], q: usize, guard: Guard, z: usize, i: usize) -> usize
+    requires { ⌜ Fits (now row) q (guardDemands (guard .relation) (guard .constant) z i) ⌝ }
+    ensures { λ r. ⌜ Wrote (now (row .entry)) q (guardDemands (guard .relation) (guard .constant) z i) (now (row .exit)) r ⌝ }
+{
+    let relation = guard.relation;
+    let first = constraints::guard_demand(relation, guard.constant, z, i, false);
+    let p = put(row, q, first);
+    if !constraints::twice(relation) {
+        return p;
+    }
+    let second = constraints::guard_demand(relation, guard.constant, z, i, true);
+    put(row, p, second)
+}
+
+// Writes the order demand of the step at moment i + 1.
+fn put_order(row: &mut [i64], q: usize, i: usize) -> usize
+    requires { ⌜ (i < 1024) × Fits (now row) q (plus (i + 1) i 0 false ∷ []) ⌝ }
+    ensures { λ r. ⌜ Wrote (now (row .entry)) q (plus (i + 1) i 0 false ∷ []) (now (row .exit)) r ⌝ }
+{
+    let moment = i + 1;
+    let order = Demand {
+        from: moment,
+        to: i,
+        up: 0,
+        down: 0,
+        strict: false,
+    };
+    put(row, q, order)
+}
+
+// Writes the start demands of the clocks.
+fn put_starts(row: &mut [i64], q: usize, clocks: usize, total: usize)
+    requires { ⌜ (clocks ≤ 6) × (total ≤ 1024) × Fits (now row) q (startDemands total anyStarts 1 clocks) ⌝ }
+    ensures { λ _. ⌜ now (row .exit) ≡ sets (now (row .entry)) q (cells (startDemands total anyStarts 1 clocks)) ⌝ }
+{
+    let mut p = q;
+    let mut j: usize = 1;
+    while j <= clocks {
+        let start = Demand {
+            from: 0,
+            to: total + j,
+            up: 0,
+            down: 0,
+            strict: false,
+        };
+        p = put(row, p, start);
+        j += 1;
+    }
+}
+
+// The number of the step after step s, when a round has so many.
+fn following(steps: usize, s: usize) -> usize
+    requires { ⌜ s < 16 ⌝ }
+    ensures { λ r. ⌜ r ≡ followingOf steps s ⌝ }
+{
+    let next = s + 1;
+    if next == steps { 0 } else { next }
+}
+
+// Writes all demands of k rounds to the row: of each step the order demand and those of its guards, then those of the
+// starts. So many steps are past, and step s of the table is next, with its order demand or with the guard at place g.
 fn write(t: Table, k: usize, row: &mut [i64])
     requires { ⌜ Ready t k × (4 * length (demandsOf t k) ≤ length (now row)) ⌝ }
     ensures { λ _. ⌜ now (row .exit) ≡ over (cells (demandsOf t k)) (now (row .entry)) ⌝ }
 {
-    let ends = t.ends;
     let flags = t.resets;
     let total = k * t.steps;
-    let mut c = constraints::first(total);
+    let fresh = constraints::first(total);
+    let mut resets = fresh.resets;
     let mut q: usize = 0;
-    while c.clock <= t.clocks {
-        let place = c.guard;
-        let guard = t.guards[place];
-        let d = constraints::current(total, guard, c);
-        put(row, q, d);
-        c = constraints::next(&ends, &flags, t.steps, total, guard, c);
-        q += 4;
+    let mut past: usize = 0;
+    let mut s: usize = 0;
+    let mut g = t.ends[0];
+    let mut order = true;
+    while past < total {
+        if order {
+            q = put_order(row, q, past);
+            order = false;
+            continue;
+        }
+        if g < t.ends[s + 1] {
+            let guard = t.guards[g];
+            let clock = guard.clock;
+            q = put_guard(row, q, guard, resets[clock], past + 1);
+            g += 1;
+            continue;
+        }
+        let after = constraints::reset_at(&flags, s, past + 1, resets);
+        resets = after;
+        s = following(t.steps, s);
+        g = t.ends[s];
+        past += 1;
+        order = true;
     }
+    put_starts(row, q, t.clocks, total);
 }
 
 // The answer for an accepted table.

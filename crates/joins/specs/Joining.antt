@@ -7,27 +7,26 @@ use native.Mathlib.Omega.{arith}
 use lib.ListN.{length, length-append}
 use Rattle.table.specs.Step.{Step}
 use Rattle.runs.specs.Steps.{fairs-append}
+use Rattle.zones.specs.Matrix.{OthersSettled}
+use Rattle.zones.specs.Renaming.{renamed, renamed-fails, renamed-closure}
 use Rattle.zones.specs.Linear.{AllWithin}
 use Rattle.zones.specs.Cells.{matrix, Closing, answer, closeOf}
 use Rattle.zones.specs.Closing.{close-true, close-false}
 use Rattle.effects.specs.Describes.{Describes, describes-same}
 use Rattle.effects.specs.Join.{Glued, joined, join-fails}
 use Rattle.joins.specs.Tells.{Tells, Sized, effect-within}
-use Rattle.joins.specs.Gluing.{glueOf, outerOf, glue-ranged, glue-glued, outer-same}
+use Rattle.joins.specs.Swapping.{swap, swap-naming}
+use Rattle.joins.specs.Gluing.{glueOf, glued, glue-ranged, glue-glued, outer-same}
+use Rattle.joins.specs.Middle.{glue-settled}
 
--- An answer about twenty-one vertices, with the middle seven left out.
-abbrev pub outward : Closing → Closing
-outward (answer ok l) = answer ok (outerOf l)
-
--- Glued, closed, and the middle left out.
+-- Glued, and closed by pivots at the configuration between.
 unfoldable pub joinOf : List ℕ → List ℕ → Closing
-joinOf A B = outward (closeOf 21 (glueOf A B))
+joinOf A B = closeOf 14 21 (glueOf A B)
 
 -- The program's join, step by step.
-pub join-is : (A B g l z : List ℕ) (ok : Bool) → g ≡ glueOf A B → closeOf 21 g ≡ answer ok l → z ≡ outerOf l
-    → joinOf A B ≡ answer ok z
+pub join-is : (A B g z : List ℕ) (ok : Bool) → g ≡ glueOf A B → closeOf 14 21 g ≡ answer ok z → joinOf A B ≡ answer ok z
 unfolding joinOf
-join-is A B g l z ok hg e hz = ap outward (ap (closeOf 21) (sym hg) ∙ e) ∙ ap (answer ok) (sym hz)
+join-is A B g z ok hg e = ap (closeOf 14 21) (sym hg) ∙ e
 
 -- What an answer tells of a list of steps.
 abbrev Told : List Step → Closing → Type 0
@@ -46,7 +45,7 @@ module _ {σ τ : List Step} (s : Sized σ) (t : Sized τ) where
   pub join-tells : (A B : List ℕ) → Describes σ (matrix A) → Describes τ (matrix B)
       → (ok : Bool) (z : List ℕ) → joinOf A B ≡ answer ok z → Tells (σ ++ τ) ok z
   unfolding joinOf
-  join-tells A B dA dB ok z e = subst (Told (σ ++ τ)) e (go (closeOf 21 (glueOf A B)) refl)
+  join-tells A B dA dB ok z e = subst (Told (σ ++ τ)) e (go (closeOf 14 21 (glueOf A B)) refl)
     where
       wA : AllWithin 14 (2 ^ 52) (matrix A)
       wA = effect-within s A dA
@@ -54,18 +53,23 @@ module _ {σ τ : List Step} (s : Sized σ) (t : Sized τ) where
       wB : AllWithin 14 (2 ^ 52) (matrix B)
       wB = effect-within t B dB
 
-      glued : Glued (matrix A) (matrix B) (matrix (glueOf A B))
-      glued = glue-glued (2 ^ 52) A B (omega arith) wA wB (dA .flat) (dB .flat)
+      G : Glued (matrix A) (matrix B) (glued A B)
+      G = glue-glued (2 ^ 52) A B (omega arith) wA wB (dA .flat) (dB .flat)
 
-      go : (c : Closing) → closeOf 21 (glueOf A B) ≡ c → Told (σ ++ τ) (outward c)
+      others : OthersSettled 21 14 21 (matrix (glueOf A B))
+      others = glue-settled (2 ^ 52) A B (omega arith) wA wB (dA .closed) (dB .closed)
+
+      go : (c : Closing) → closeOf 14 21 (glueOf A B) ≡ c → Told (σ ++ τ) c
       go (answer ok l) q = record {
         runs = λ h.
             describes-same (outer-same l)
-            (joined σ τ (matrix A) (matrix B) (s .fair) (t .fair) dA dB (matrix (glueOf A B)) glued (matrix l)
-            (close-true (2 ^ 52) (glueOf A B) (omega arith) (glue-ranged (2 ^ 52) A B wA wB) 21 ok l
-            (omega arith) q h));
+            (joined σ τ (matrix A) (matrix B) (s .fair) (t .fair) dA dB (glued A B) G (renamed swap (matrix l))
+            (renamed-closure swap-naming
+            (close-true (2 ^ 52) (glueOf A B) (omega arith) (glue-ranged (2 ^ 52) A B wA wB) 14 21 ok l q 21
+            (omega arith) (omega arith) others h)));
         stuck = λ h.
-            join-fails σ τ (matrix A) (matrix B) (s .fair) (t .fair) dA dB (matrix (glueOf A B)) glued
-            (close-false (2 ^ 52) (glueOf A B) (omega arith) (glue-ranged (2 ^ 52) A B wA wB) 21 ok l
-            (omega arith) q h);
+            join-fails σ τ (matrix A) (matrix B) (s .fair) (t .fair) dA dB (glued A B) G
+            (renamed-fails swap-naming
+            (close-false (2 ^ 52) (glueOf A B) (omega arith) (glue-ranged (2 ^ 52) A B wA wB) 14 21 ok l q 21
+            (omega arith) (omega arith) others h));
       }

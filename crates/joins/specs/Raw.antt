@@ -13,6 +13,7 @@ use Rattle.runs.specs.Demand.{plus, guardDemands, guardsDemands}
 use Rattle.runs.specs.Tools.{Every, every-nil, every-cons, every-append}
 use Rattle.zones.specs.Cells.{matrix, Ranged, unboundedOf, Closing, answer, closeOf}
 use Rattle.zones.specs.Building.{ranged-wider, unbounded-ranged, unbounded-solves, unbounded-flat}
+use Rattle.zones.specs.Closure.{no-others}
 use Rattle.zones.specs.Closing.{close-true, close-false}
 use Rattle.effects.specs.Demands.{each, every-each}
 use Rattle.effects.specs.Single.{Raw, single, single-fails}
@@ -26,7 +27,7 @@ rawOf s = putsOf (stepDemands s) unboundedOf
 
 -- and closed.
 unfoldable pub effectOf : Step → Closing
-effectOf s = closeOf 14 (rawOf s)
+effectOf s = closeOf 0 14 (rawOf s)
 
 -- The program puts in first time and the clocks, then the guards.
 pub raw-put : (s : Step) (l z : List ℕ) → l ≡ putsOf (each 6 (clockDemands s)) (putOf (plus 7 0 0 false) unboundedOf)
@@ -102,7 +103,9 @@ module _ (s : Step) (f : Fair s) where
   unfolding effectOf
   effect-tells ok z e = record {
     runs = λ q. single s (matrix (rawOf s)) f raw-is (matrix z)
-        (close-true 4000 (rawOf s) (omega arith) raw-ranged 14 ok z (omega arith) e q);
+        (close-true 4000 (rawOf s) (omega arith) raw-ranged 0 14 ok z e 14 (omega arith) (omega arith)
+        (no-others 14 (matrix (rawOf s))) q);
     stuck = λ q. single-fails s (matrix (rawOf s)) f raw-is
-        (close-false 4000 (rawOf s) (omega arith) raw-ranged 14 ok z (omega arith) e q);
+        (close-false 4000 (rawOf s) (omega arith) raw-ranged 0 14 ok z e 14 (omega arith) (omega arith)
+        (no-others 14 (matrix (rawOf s))) q);
   }

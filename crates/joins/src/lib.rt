@@ -14,7 +14,8 @@ use zones::unbounded;
 ghost use mathlib.Core.Path.{_≡_};
 ghost use mathlib.Core.List.{_∷_};
 ghost use mathlib.Core.Bool.{false, cond};
-ghost use Prim.Native.Nat.{_+_, _<_, _^_};
+ghost use Prim.Native.Nat.{_+_, _<_, _≤_, _^_};
+ghost use lib.ListN.{length};
 ghost use Rattle.table.specs.Step.{FairGuard, stepAt, stepsFrom, stepsOf, Good};
 ghost use Rattle.runs.specs.Demand.{plus, guardDemands, guardsDemands};
 ghost use Rattle.zones.specs.Linear.{AllWithin};
@@ -24,7 +25,9 @@ ghost use Rattle.effects.specs.StepDemands.{resetDemands, clockDemands};
 ghost use Rattle.joins.specs.Puts.{putOf, putsOf};
 ghost use Rattle.joins.specs.Tells.{Tells};
 ghost use Rattle.joins.specs.Raw.{effectOf};
-ghost use Rattle.joins.specs.Gluing.{frontOf, backOf, glueOf, outerVertex, outerOf};
+ghost use Rattle.joins.specs.Blocks.{stripOf, blockOf};
+ghost use Rattle.joins.specs.Laying.{layOf};
+ghost use Rattle.joins.specs.Gluing.{glueOf};
 ghost use Rattle.joins.specs.Joining.{joinOf};
 
 // The vertex of clock j's last reset after the step: the step, or its last reset before.
@@ -36,33 +39,34 @@ fn last(j: usize, reset: bool) -> usize
 }
 
 // Clock j between the two configurations: not last reset after the start, and reset by the step or kept.
-fn clock(m: Matrix, j: usize, reset: bool) -> Matrix
-    requires { ⌜ (0 < j) × (j < 7) ⌝ }
-    ensures { λ r. ⌜ r .cells ≡ putsOf (plus 0 j 0 false ∷ resetDemands reset j) (m .cells) ⌝ }
+fn clock(cells: &mut [u64], j: usize, reset: bool)
+    requires { ⌜ (0 < j) × (j < 7) × (length (now cells) ≡ 441) ⌝ }
+    ensures { λ _. ⌜ now (cells .exit) ≡ putsOf (plus 0 j 0 false ∷ resetDemands reset j) (now (cells .entry)) ⌝ }
 {
     let from = last(j, reset);
-    let old = tighten(m, 0, j, ZERO);
-    let there = tighten(old, from, 7 + j, ZERO);
-    tighten(there, 7 + j, from, ZERO)
+    tighten(cells, 0, j, ZERO);
+    tighten(cells, from, 7 + j, ZERO);
+    tighten(cells, 7 + j, from, ZERO);
 }
 
 // A guard, on the time from its clock's last reset to the step.
-fn guard(m: Matrix, g: Guard) -> Matrix
-    requires { ⌜ FairGuard g ⌝ }
-    ensures { λ r. ⌜ r .cells ≡ putsOf (guardDemands (g .relation) (g .constant) (g .clock) 7) (m .cells) ⌝ }
+fn guard(cells: &mut [u64], g: Guard)
+    requires { ⌜ FairGuard g × (length (now cells) ≡ 441) ⌝ }
+    ensures { λ _. ⌜ now (cells .exit)
+        ≡ putsOf (guardDemands (g .relation) (g .constant) (g .clock) 7) (now (cells .entry)) ⌝ }
 {
     let j = g.clock;
     let c = 2 * g.constant;
     let relation = g.relation;
     match relation {
-        Relation::Under => tighten(m, j, 7, BASE + c),
-        Relation::AtMost => tighten(m, j, 7, ZERO + c),
+        Relation::Under => tighten(cells, j, 7, BASE + c),
+        Relation::AtMost => tighten(cells, j, 7, ZERO + c),
         Relation::Exactly => {
-            let most = tighten(m, j, 7, ZERO + c);
-            tighten(most, 7, j, ZERO - c)
+            tighten(cells, j, 7, ZERO + c);
+            tighten(cells, 7, j, ZERO - c);
         }
-        Relation::AtLeast => tighten(m, 7, j, ZERO - c),
-        Relation::Over => tighten(m, 7, j, BASE - c),
+        Relation::AtLeast => tighten(cells, 7, j, ZERO - c),
+        Relation::Over => tighten(cells, 7, j, BASE - c),
     }
 }
 
@@ -71,13 +75,15 @@ fn clocks(t: Table, i: usize) -> Matrix
     requires { ⌜ i < 16 ⌝ }
     ensures { λ r. ⌜ r .cells ≡ putsOf (each 6 (clockDemands (stepAt t i))) (putOf (plus 7 0 0 false) unboundedOf) ⌝ }
 {
-    let mut out = tighten(unbounded(), 7, 0, ZERO);
+    let start = unbounded();
+    let mut cells = start.cells;
+    tighten(&mut cells, 7, 0, ZERO);
     let mut j: usize = 6;
     while 0 < j {
-        out = clock(out, j, t.resets[7 * i + j]);
+        clock(&mut cells, j, t.resets[7 * i + j]);
         j -= 1;
     }
-    out
+    Matrix { cells: cells }
 }
 
 // The guards of step i.
@@ -86,13 +92,13 @@ fn guards(m: Matrix, t: Table, i: usize) -> Matrix
     ensures { λ r. ⌜ r .cells ≡ putsOf (guardsDemands (stepAt t i .guards) 7 (λ j. j)) (m .cells) ⌝ }
 {
     let end = t.ends[i + 1];
-    let mut out = m;
+    let mut cells = m.cells;
     let mut k = t.ends[i];
     while k < end {
-        out = guard(out, t.guards[k]);
+        guard(&mut cells, t.guards[k]);
         k += 1;
     }
-    out
+    Matrix { cells: cells }
 }
 
 // The effect of step i of a table, or that it has no run.
@@ -101,69 +107,61 @@ pub fn step_effect(t: Table, i: usize) -> Closing
     ensures { λ r. ⌜ effectOf (stepAt t i) ≡ answer (r .ok) (r .zone .cells) ⌝ }
 {
     let start = clocks(t, i);
-    close(guards(start, t, i), 14)
-}
-
-// The code e at index k, if both ends of that cell are among the first fourteen vertices.
-fn front(k: usize, e: u64) -> u64
-    ensures { λ r. ⌜ r ≡ frontOf k e ⌝ }
-{
-    if k / 21 < 14 {
-        if k % 21 < 14 {
-            return e;
-        }
+    let whole = guards(start, t, i);
+    let mut cells = whole.cells;
+    let ok = close(&mut cells, 0, 14);
+    Closing {
+        ok: ok,
+        zone: Matrix { cells: cells },
     }
-    NONE
 }
 
-// The same among the last fourteen.
-fn back(k: usize, e: u64) -> u64
-    ensures { λ r. ⌜ r ≡ backOf k e ⌝ }
+// Lays the seven codes of m from index `from` on over those of `out` from index `to` on: the tighter stays.
+fn strip(out: &mut [u64], m: &[u64], to: usize, from: usize)
+    requires { ⌜ (length (now out) ≡ 441) × (length (now m) ≡ 441) × (to + 7 ≤ 441) × (from + 7 ≤ 441) ⌝ }
+    ensures { λ _. ⌜ now (out .exit) ≡ stripOf to from (now (m .entry)) 7 (now (out .entry)) ⌝ }
 {
-    if 7 <= k / 21 {
-        if 7 <= k % 21 {
-            return e;
-        }
+    let mut c: usize = 0;
+    while c < 7 {
+        let old = out[to + c];
+        let new = m[from + c];
+        out[to + c] = tighter(old, new);
+        c += 1;
     }
-    NONE
 }
 
-// Two effects as one matrix, of which they share the middle seven vertices. The cell of b for index k is 154 before k, or
-// 287 after it, counted round.
+// The same of seven rows of seven.
+fn block(out: &mut [u64], m: &[u64], to: usize, from: usize)
+    requires { ⌜ (length (now out) ≡ 441) × (length (now m) ≡ 441) × (to + 133 ≤ 441) × (from + 133 ≤ 441) ⌝ }
+    ensures { λ _. ⌜ now (out .exit) ≡ blockOf to from (now (m .entry)) 7 (now (out .entry)) ⌝ }
+{
+    let mut r: usize = 0;
+    while r < 7 {
+        strip(out, m, to + r * 21, from + r * 21);
+        r += 1;
+    }
+}
+
+// Lays an effect over `out`: the configuration before comes to the vertices from lo on, the one after to those from hi.
+fn lay(out: &mut [u64], m: &[u64], lo: usize, hi: usize)
+    requires { ⌜ (length (now out) ≡ 441) × (length (now m) ≡ 441) × (lo + 7 ≤ 21) × (hi + 7 ≤ 21) ⌝ }
+    ensures { λ _. ⌜ now (out .exit) ≡ layOf lo hi (now (m .entry)) (now (out .entry)) ⌝ }
+{
+    block(out, m, lo * 22, 0);
+    block(out, m, lo * 21 + hi, 7);
+    block(out, m, hi * 21 + lo, 147);
+    block(out, m, hi * 22, 154);
+}
+
+// Two effects as one matrix: before at vertices 0 to 6, after at 7 to 13, and between, which they share, at 14 to 20.
 fn glue(a: Matrix, b: Matrix) -> Matrix
     ensures { λ r. ⌜ r .cells ≡ glueOf (a .cells) (b .cells) ⌝ }
 {
+    let first = a.cells;
+    let second = b.cells;
     let mut out = [NONE; 441];
-    let mut k: usize = 0;
-    while k < 441 {
-        let first = front(k, a.cells[k]);
-        let second = back(k, b.cells[(k + 287) % 441]);
-        out[k] = tighter(first, second);
-        k += 1;
-    }
-    Matrix { cells: out }
-}
-
-// The vertex of twenty-one that is vertex a when the middle seven are left out.
-fn outer(a: usize) -> usize
-    requires { ⌜ a < 21 ⌝ }
-    ensures { λ r. ⌜ (r ≡ outerVertex a) × (r < 28) ⌝ }
-{
-    if a < 7 { a } else { 7 + a }
-}
-
-// The middle seven vertices left out.
-fn ends(m: Matrix) -> Matrix
-    ensures { λ r. ⌜ r .cells ≡ outerOf (m .cells) ⌝ }
-{
-    let mut out = [NONE; 441];
-    let mut k: usize = 0;
-    while k < 441 {
-        let row = outer(k / 21);
-        let column = outer(k % 21);
-        out[k] = front(k, m.cells[(row * 21 + column) % 441]);
-        k += 1;
-    }
+    lay(&mut out, &first, 0, 14);
+    lay(&mut out, &second, 14, 7);
     Matrix { cells: out }
 }
 
@@ -172,11 +170,12 @@ pub fn join(a: Matrix, b: Matrix) -> Closing
     requires { ⌜ (AllWithin 14 (2 ^ 52) (matrix (a .cells))) × (AllWithin 14 (2 ^ 52) (matrix (b .cells))) ⌝ }
     ensures { λ r. ⌜ joinOf (a .cells) (b .cells) ≡ answer (r .ok) (r .zone .cells) ⌝ }
 {
-    let whole = close(glue(a, b), 21);
-    let zone = whole.zone;
+    let whole = glue(a, b);
+    let mut cells = whole.cells;
+    let ok = close(&mut cells, 14, 21);
     Closing {
-        ok: whole.ok,
-        zone: ends(zone),
+        ok: ok,
+        zone: Matrix { cells: cells },
     }
 }
 

@@ -124,33 +124,3 @@ relaxable N top c s f t r u l g = record {
   loss-fits = omega (arith, u (c .from) f);
   gain-fits = omega (arith, u (c .to) t);
 }
-
--- In pass number n, before the check of c: xs is checked and ys is left.
-pub turn-relaxable : (N unit top : ℕ) (xs ys : List Constraint) (c : Constraint) (n q : ℕ) (s : State)
-    → Fits N (xs ++ (c ∷ ys)) → Gains unit (xs ++ (c ∷ ys)) → c .loss ≤ unit → Room N s → Under N top (s .time)
-    → top + (n + 1) * length (xs ++ (c ∷ ys)) * unit < 2 ^ 64
-    → Relaxable c (passOf xs q (passesOf (xs ++ (c ∷ ys)) n s))
-turn-relaxable N unit top xs ys c n q s f g l r u fits =
-    relaxable N (top + n * length cs * unit + length xs * unit) c _ (f .from c here) (f .to c here)
-    (room-kept N _ _ (pass-size xs q before) room)
-    (pass-under N unit xs (top + n * length cs * unit) q before (fits-left N xs (c ∷ ys) f)
-    (λ d m. g d (Memᴰ·append-left (c ∷ ys) m))
-    room
-    (passes-under N unit cs top n s f g r u))
-    (omega (arith, fits, l, few))
-    (omega (arith, fits, g c here, few))
-  where
-    cs : List Constraint
-    cs = xs ++ (c ∷ ys)
-
-    before : State
-    before = passesOf cs n s
-
-    room : Room N before
-    room = room-kept N s before (passes-size cs n s) r
-
-    here : List·Memᴰ c cs
-    here = Memᴰ·append-right xs (List·Memᴰ·head refl)
-
-    few : (length xs + 1) * unit ≤ length cs * unit
-    few = mul-le-mul-right unit (omega (arith, length-append xs (c ∷ ys)))

@@ -1,16 +1,14 @@
 -- What the functions ask of the lent slices, and what they give.
-use mathlib.Core.Path.{_≡_, sym, ap, _∙_, subst}
-use mathlib.Core.Logic.{_⊎_, inl, inr}
-use mathlib.Core.Bool.{Bool, true, false, _||_, or-true, or-false}
-use mathlib.Core.List.{List, [], _∷_, _++_}
-use Prim.Native.Nat.{ℕ, _+_, _≤_, _<_}
+use mathlib.Core.Path.{_≡_, ap, _∙_}
+use mathlib.Core.Bool.{Bool}
+use mathlib.Core.List.{List}
+use Prim.Native.Nat.{ℕ, _≤_, _<_}
 use native.Mathlib.Omega.{arith}
 use lib.ListN.{length, take, drop}
 use Rattle.paths.specs.Walk.{iter, Ring, ring, ring-few}
 use Rattle.paths.specs.Places.{at, tab, written, take-written, drop-written}
 use Rattle.paths.specs.Constraint.{Constraint}
-use Rattle.paths.specs.State.{State, lowOf, relaxOf, passOf, hitsOf, pass-none, hits-none, pass-snoc, hits-snoc}
-use Rattle.paths.specs.Bounds.{SameSize, pass-size}
+use Rattle.paths.specs.State.{State, lowOf, relaxOf, passOf, hitsOf}
 use Rattle.paths.specs.Cycle.{OnCycle}
 
 -- s′ is s after a check of c with the stamp q, and r says whether it raised a time.
@@ -39,33 +37,6 @@ pub record Wrote (p : List ℕ) (u : ℕ) (out out′ : List ℕ) (r : ℕ) : Ty
   pub ring : Ring (at p) u r
   pub few : r ≤ length out
   pub contents : out′ ≡ written (λ k. iter (at p) k u) r out
-
--- ---- check by check
--- Before the first check, and after one check more; sizes are kept.
-pub progress-none : (q : ℕ) (s : State) → Progress [] q s s false
-progress-none q s = record { hits = sym (hits-none q s); after = sym (pass-none q s) }
-
--- g is h after `if r { h = true; }`.
-abbrev pub Joined : Bool → Bool → Bool → Type 0
-Joined h r g = ((r ≡ true) × (g ≡ true)) ⊎ ((r ≡ false) × (g ≡ h))
-
-joined : (h r g : Bool) → Joined h r g → g ≡ (h || r)
-joined h r g (inl e) = e .1 ∙ sym (or-true h) ∙ ap (λ (b : Bool). h || b) (sym (e .0))
-joined h r g (inr e) = e .1 ∙ sym (or-false h) ∙ ap (λ (b : Bool). h || b) (sym (e .0))
-
-pub progress-more : (xs : List Constraint) (c : Constraint) (q : ℕ) (s s′ s″ : State) (h r g : Bool)
-    → Progress xs q s s′ h → Check c (q + length xs) s′ s″ r → Joined h r g → Progress (xs ++ (c ∷ [])) q s s″ g
-progress-more xs c q s s′ s″ h r g p k j = record {
-  hits =
-      joined h r g j
-      ∙ ap (λ (b : Bool). b || r) (p .hits)
-      ∙ ap (λ (b : Bool). hitsOf xs q s || b) (k .raised ∙ ap (λ (z : State). lowOf c (z .time)) (p .after))
-      ∙ sym (hits-snoc xs c q s);
-  after = k .after ∙ ap (relaxOf c (q + length xs)) (p .after) ∙ sym (pass-snoc xs c q s);
-}
-
-pub progress-size : (xs : List Constraint) (q : ℕ) (s s′ : State) (h : Bool) → Progress xs q s s′ h → SameSize s s′
-progress-size xs q s s′ h p = subst (SameSize s) (sym (p .after)) (pass-size xs q s)
 
 -- ---- what a caller shows
 -- A walk that stays below n stays in a list of n places or more.

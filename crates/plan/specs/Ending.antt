@@ -22,7 +22,8 @@ use Rattle.paths.specs.Search.{Searchable, Search, found-some}
 use Rattle.plan.specs.InParts.{inParts}
 use Rattle.plan.specs.Passes.{Begins, Ended}
 use Rattle.plan.specs.Sized.{Sized, partsOf, constraintsOf, unit, sized-parts, sized-fits, sized-gain}
-use Rattle.plan.specs.Turns.{Passable, Swept, length-parts}
+use Rattle.plan.specs.Checks.{length-parts}
+use Rattle.plan.specs.Turns.{Passable, Swept}
 
 -- What the passes ask: the start values, and a mark for each moment.
 pub record Ready (t : Table) (k : ℕ) (s : State) (marks : List ℕ) : Type 0 where

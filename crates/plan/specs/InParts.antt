@@ -1,6 +1,6 @@
 -- Demands as difference constraints in parts.
 use mathlib.Core.Logic.{_↔_}
-use mathlib.Core.List.{List, map, List·Memᴰ}
+use mathlib.Core.List.{List, map}
 use Prim.Native.Nat.{ℕ}
 use Rattle.runs.specs.declared.Demand.{Demand}
 use Rattle.runs.specs.Tools.{Every, every-map}
@@ -24,12 +24,3 @@ satisfies-parts P x ds = (
   where
     parts : All (allInParts P ds) x ↔ Every (λ d. Holds (inParts P d) x) ds
     parts = every-map (λ c. Holds c x) (inParts P) ds
-
--- Some of the demands ds, with the same solutions in P parts to a tick: what may be checked in their place.
-pub record Serves (P : ℕ) (es ds : List Demand) : Type 0 where
-  pub among : (d : Demand) → List·Memᴰ d es → List·Memᴰ d ds
-  pub enough : (x : ℕ → ℕ) → Satisfies P x es → Satisfies P x ds
-
--- All of them serve.
-pub serves-all : (P : ℕ) (ds : List Demand) → Serves P ds ds
-serves-all P ds = record { among = λ d m. m; enough = λ x h. h }

@@ -18,9 +18,16 @@ pub mod Rises
 pub mod Passes
 -- the code
 pub mod Sized
+pub mod Checks
+pub mod GuardChecks
 pub mod Turns
+pub mod Starting
+pub mod StepPlaces
+pub mod Stepping
 pub mod Ending
 pub mod Lift
+pub mod Unasked
+pub mod Lifting
 pub mod Solve
 pub mod Admit
 pub mod Trimmed

@@ -1,7 +1,7 @@
--- The smallest starts in a room, demand by demand.
+-- The smallest starts in a room, constraint by constraint.
 use mathlib.Core.Path.{_≡_, refl, sym, ap, _∙_}
 use mathlib.Core.Bool.{cond}
-use mathlib.Core.List.{List, [], _++_, List·Memᴰ}
+use mathlib.Core.List.{List, [], _∷_, _++_, List·Memᴰ·head, List·Memᴰ·tail}
 use Prim.Native.Nat.{ℕ, _+_, _*_, _-_, _≤_, _<_, _^_, max}
 use native.Mathlib.Omega.{arith}
 use native.Mathlib.Decide.{decLt, ℕ-discrete}
@@ -11,18 +11,14 @@ use lib.Seq.{getD-set-same, getD-set-other, drop-set-lt, getD-drop, ext-getD}
 use borrow.Author.Tests.{lt-ltb, le-ltb, eq-eqb, ne-eqb}
 use Rattle.table.specs.declared.Table.{Table}
 use Rattle.runs.specs.declared.Demand.{Demand}
-use Rattle.constraints.specs.declared.Cursor.{Cursor}
-use Rattle.constraints.specs.Cursor.{firstOf}
-use Rattle.constraints.specs.Rest.{demandsOf, rest}
-use Rattle.constraints.specs.Constraints.{At, Moved, rest-first, at-first}
 use Rattle.runs.specs.Parts.{bit}
-use Rattle.paths.specs.Places as state
+use Rattle.runs.specs.Tools.{Every}
 use Rattle.paths.specs.Places.{at, tab, written, length-written, at-written, at-written-rest, drop-written, filled}
 use Rattle.paths.specs.Constraint.{Constraint}
 use Rattle.paths.specs.Bounds.{Under}
-use Rattle.plan.specs.InParts.{inParts, allInParts}
+use Rattle.plan.specs.InParts.{inParts}
 use Rattle.plan.specs.LeastStart.{lag, raised, startFrom, leastStart}
-use Rattle.plan.specs.Sized.{Sized, partsOf, constraintsOf, unit, sized-proper, sized-gain, sized-loss}
+use Rattle.plan.specs.Sized.{Sized, partsOf, constraintsOf, unit}
 
 -- the place of a clock in the room of starts, when its last reset before the start is v
 abbrev pub placeOf : ℕ → ℕ → ℕ
@@ -84,6 +80,21 @@ module _ (K n : ℕ) (x : ℕ → ℕ) (c : Constraint) (inside : c .to < K + n 
       go (yes h) = rw (lt-ltb K (c .to) h) (drop-set-lt n l (placeOf K (c .to)) _ (omega arith))
       go (no h) = rw (le-ltb K (c .to) (omega arith)) refl
 
+-- Starts raised to what each constraint of a list asks.
+unfoldable pub liftsOf : ℕ → (ℕ → ℕ) → List Constraint → List ℕ → List ℕ
+liftsOf K x [] l = l
+liftsOf K x (c ∷ cs) l = liftsOf K x cs (liftOf K x c l)
+
+pub lifts-none : (K : ℕ) (x : ℕ → ℕ) (l : List ℕ) → liftsOf K x [] l ≡ l
+unfolding liftsOf
+lifts-none K x l = refl
+
+pub lifts-append : (K : ℕ) (x : ℕ → ℕ) (cs ds : List Constraint) (l : List ℕ)
+    → liftsOf K x (cs ++ ds) l ≡ liftsOf K x ds (liftsOf K x cs l)
+unfolding liftsOf
+lifts-append K x [] ds l = refl
+lifts-append K x (c ∷ cs) ds l = lifts-append K x cs ds (liftOf K x c l)
+
 -- a list whose first places are known and whose rest is kept
 pub written-is : (f : ℕ → ℕ) (n : ℕ) (l₀ l : List ℕ) → n ≤ length l₀ → length l ≡ length l₀
     → ((j : ℕ) → j < n → at l j ≡ f j) → drop n l ≡ drop n l₀ → l ≡ written f n l₀
@@ -99,6 +110,43 @@ written-is f n l₀ l room size h same =
         ∙ getD-drop n l₀ (j - n) 0
         ∙ ap (at l₀) e
         ∙ sym (at-written-rest f n l₀ j (omega arith))
+
+-- Each start is raised to the smallest one, and the rest is kept.
+module _ (K n : ℕ) (x : ℕ → ℕ) where
+  lifts-at : (cs : List Constraint) → Every (λ c. c .to < K + n + 1) cs → (l : List ℕ) → n ≤ length l → (j : ℕ) → j < n
+      → at (liftsOf K x cs l) j ≡ startFrom x (K + (j + 1)) cs (at l j)
+  unfolding liftsOf startFrom
+  lifts-at [] f l room j w = refl
+  lifts-at (c ∷ cs) f l room j w =
+      let i = f c (List·Memᴰ·head refl) in
+      lifts-at cs (λ d m. f d (List·Memᴰ·tail m)) (liftOf K x c l) (omega (arith, lift-size K n x c i l room)) j w
+      ∙ ap (startFrom x (K + (j + 1)) cs) (lift-at K n x c i l room j w)
+
+  lifts-size : (cs : List Constraint) → Every (λ c. c .to < K + n + 1) cs → (l : List ℕ) → n ≤ length l
+      → length (liftsOf K x cs l) ≡ length l
+  unfolding liftsOf
+  lifts-size [] f l room = refl
+  lifts-size (c ∷ cs) f l room =
+      let i = f c (List·Memᴰ·head refl) in
+      let e = lift-size K n x c i l room in
+      lifts-size cs (λ d m. f d (List·Memᴰ·tail m)) (liftOf K x c l) (omega arith) ∙ e
+
+  lifts-rest : (cs : List Constraint) → Every (λ c. c .to < K + n + 1) cs → (l : List ℕ) → n ≤ length l
+      → drop n (liftsOf K x cs l) ≡ drop n l
+  unfolding liftsOf
+  lifts-rest [] f l room = refl
+  lifts-rest (c ∷ cs) f l room =
+      let i = f c (List·Memᴰ·head refl) in
+      let e = lift-size K n x c i l room in
+      lifts-rest cs (λ d m. f d (List·Memᴰ·tail m)) (liftOf K x c l) (omega arith) ∙ lift-rest K n x c i l room
+
+  -- from 0 on
+  pub lifts-written : (cs : List Constraint) → Every (λ c. c .to < K + n + 1) cs → (l : List ℕ) → n ≤ length l
+      → ((j : ℕ) → j < n → at l j ≡ 0) → liftsOf K x cs l ≡ written (λ j. leastStart x cs (K + (j + 1))) n l
+  lifts-written cs f l room zeros =
+      written-is (λ j. leastStart x cs (K + (j + 1))) n l (liftsOf K x cs l) room (lifts-size cs f l room)
+      (λ j w. lifts-at cs f l room j w ∙ ap (startFrom x (K + (j + 1)) cs) (zeros j w))
+      (lifts-rest cs f l room)
 
 -- What a lift asks: places in the rooms, and sums that fit.
 pub record Liftable (K P : ℕ) (d : Demand) (time starts : List ℕ) : Type 0 where
@@ -121,15 +169,6 @@ pub record Startable (t : Table) (k : ℕ) (time starts : List ℕ) : Type 0 whe
 abbrev pub startAt : Table → ℕ → List ℕ → ℕ → ℕ
 startAt t k time j = leastStart (at time) (constraintsOf t k) (k * t .steps + (j + 1))
 
--- At the cursor c: the demands left raise the starts l to the smallest ones, and the rest of the room is that of l₀.
-pub record Lifting (t : Table) (k : ℕ) (time l₀ : List ℕ) (c : Cursor) (l : List ℕ) : Type 0 where
-  pub at : At t k c
-  pub starts : (j : ℕ) → j < t .clocks
-      → startFrom (state.at time) (k * t .steps + (j + 1)) (allInParts (partsOf t k) (rest t k c)) (state.at l j)
-      ≡ startAt t k time j
-  pub size : length l ≡ length l₀
-  pub rest : drop (t .clocks) l ≡ drop (t .clocks) l₀
-
 -- ---- the room is filled with 0 first
 module _ (t : Table) (k : ℕ) (time l l₀ : List ℕ) (z : Startable t k time l) (e : l₀ ≡ filled 0 (t .clocks) l) where
   pub filled-startable : Startable t k time l₀
@@ -151,71 +190,3 @@ module _ (t : Table) (k : ℕ) (time l l₀ : List ℕ) (z : Startable t k time 
   pub filled-written : (f : ℕ → ℕ) → written f (t .clocks) l₀ ≡ written f (t .clocks) l
   unfolding written
   filled-written f = ap (λ r. tab f (t .clocks) ++ r) (ap (drop (t .clocks)) e ∙ drop-written (λ i. 0) (t .clocks) l)
-
-module _ (t : Table) (k : ℕ) (time l₀ : List ℕ) (z : Startable t k time l₀) where
-  abbrev K : ℕ
-  K = k * t .steps
-
-  abbrev P : ℕ
-  P = partsOf t k
-
-  abbrev n : ℕ
-  n = t .clocks
-
-  -- the starts are 0 at first
-  pub lifting-first : ((j : ℕ) → j < n → at l₀ j ≡ 0) → (c : Cursor) → c ≡ firstOf K → Lifting t k time l₀ c l₀
-  unfolding constraintsOf
-  lifting-first zeros c f =
-      rw f
-      (record {
-        at = at-first t k (z .sized .good) (z .sized .some);
-        starts = λ j w.
-            ap (λ r. startFrom (at time) (K + (j + 1)) (allInParts P (rest t k (firstOf K))) r) (zeros j w)
-            ∙ ap (λ ds. startFrom (at time) (K + (j + 1)) (allInParts P ds) 0)
-            (rest-first t k (z .sized .good) (z .sized .some));
-        size = refl;
-        rest = refl;
-      })
-
-  module _ (c : Cursor) (l : List ℕ) (u : Lifting t k time l₀ c l) (d : Demand) where
-    pub lifting-liftable : List·Memᴰ d (demandsOf t k) → Liftable K P d time l
-    lifting-liftable i =
-        record {
-          start = omega (arith, z .moments);
-          from = omega (arith, z .moments, sized-proper t k (z .sized) d i .from);
-          place = λ h. omega (arith, sized-proper t k (z .sized) d i .to, z .room, u .size);
-          down = sized-gain t k (z .sized) d i;
-          up = sized-loss t k (z .sized) d i;
-          now = z .under 0 (omega arith);
-          then = z .under (d .from) (omega (arith, sized-proper t k (z .sized) d i .from));
-        }
-
-    pub lifting-next : (e : Cursor) → Moved t k c d e → (l′ : List ℕ) → l′ ≡ liftOf K (at time) (inParts P d) l
-        → Lifting t k time l₀ e l′
-    unfolding startFrom
-    lifting-next e m l′ f =
-        rw f
-        (record {
-          at = m .at;
-          starts = λ j w. ap (λ r. startFrom (at time) (K + (j + 1)) (allInParts P (rest t k e)) r)
-              (lift-at K n (at time) (inParts P d) inside l room j w)
-              ∙ sym (ap (λ ds. startFrom (at time) (K + (j + 1)) (allInParts P ds) (at l j)) (m .left))
-              ∙ u .starts j w;
-          size = lift-size K n (at time) (inParts P d) inside l room ∙ u .size;
-          rest = lift-rest K n (at time) (inParts P d) inside l room ∙ u .rest;
-        })
-      where
-        inside : d .to < K + n + 1
-        inside = omega (arith, sized-proper t k (z .sized) d (m .listed) .to)
-
-        room : n ≤ length l
-        room = omega (arith, z .room, u .size)
-
-  -- in the end they are the smallest
-  pub lifting-last : (c : Cursor) (l : List ℕ) → Lifting t k time l₀ c l → rest t k c ≡ []
-      → l ≡ written (startAt t k time) n l₀
-  unfolding startFrom
-  lifting-last c l u e =
-      written-is (startAt t k time) n l₀ l (z .room) (u .size)
-      (λ j w. sym (ap (λ ds. startFrom (at time) (K + (j + 1)) (allInParts P ds) (at l j)) e) ∙ u .starts j w)
-      (u .rest)

@@ -1,6 +1,6 @@
 -- What passes over the demands find: the least solution above the start values, or a loop.
 use mathlib.Core.Path.{_≡_, ap}
-use mathlib.Core.List.{List, List·Memᴰ, Memᴰ·map, Memᴰ·of-map}
+use mathlib.Core.List.{List, List·Memᴰ, Memᴰ·of-map}
 use Prim.Native.Nat.{ℕ, _+_, _*_, _≤_, _<_}
 use native.Mathlib.Omega.{arith}
 use native.Mathlib.Decide.{decLe}
@@ -10,8 +10,7 @@ use Rattle.runs.specs.declared.Demand.{Demand}
 use Rattle.runs.specs.Demand.{Starts, demands}
 use Rattle.runs.specs.DemandRange.{Proper}
 use Rattle.runs.specs.Loop.{Loop}
-use Rattle.runs.specs.Parts.{gain, loss}
-use Rattle.runs.specs.Tools.{Every, every-map}
+use Rattle.runs.specs.Tools.{Every}
 use Rattle.runs.specs.Satisfies.{Satisfies}
 use Rattle.paths.specs.Places.{at}
 use Rattle.paths.specs.Walk.{ring-few}
@@ -23,9 +22,9 @@ use Rattle.paths.specs.Cycle.{OnCycle}
 use Rattle.paths.specs.Code.{Wrote}
 use Rattle.paths.specs.Outcome.{outcome-least, outcome-wrote}
 use Rattle.plan.specs.Asked.{Asked, asked-proper}
-use Rattle.plan.specs.InParts.{inParts, allInParts, satisfies-parts, Serves}
+use Rattle.plan.specs.InParts.{inParts, allInParts, satisfies-parts}
 use Rattle.plan.specs.Earliest.{Above, Least}
-use Rattle.plan.specs.Refuted.{cycle-among, cycle-is-loop}
+use Rattle.plan.specs.Refuted.{cycle-is-loop}
 use Rattle.plan.specs.Rises.{passes-rise}
 
 -- What the passes begin with: 4001 ticks for moments 0 to K, 0 for the last resets of the n clocks before the start, and no
@@ -59,31 +58,30 @@ parts-fit P M ds h =
     to : (c : Constraint) → (d : Demand) × List·Memᴰ d ds × (inParts P d ≡ c) → c .to < M + 1
     to c d = omega (arith, ap (λ b. b .to) (d .2), h (d .0) (d .1) .to)
 
--- es stands for the demands, and the passes begin with s
-module _ (P n : ℕ) (σ : List Step) (D : Starts) (a : Asked n σ D) (es : List Demand) (f : Serves P es (demands n σ D))
-    (s : State) (b : Begins P (length σ) n s) where
+-- the passes begin with s
+module _ (P n : ℕ) (σ : List Step) (D : Starts) (a : Asked n σ D) (s : State) (b : Begins P (length σ) n s) where
   abbrev K : ℕ
   K = length σ
 
   abbrev N : ℕ
   N = K + n + 1
 
-  abbrev cs : List Constraint
-  cs = allInParts P es
+  abbrev ds : List Demand
+  ds = demands n σ D
 
-  proper : Every (Proper (K + n)) es
-  proper d m = asked-proper n σ D a d (f .among d m)
+  abbrev cs : List Constraint
+  cs = allInParts P ds
 
   pub begins-start : Start N cs s
   begins-start =
-      record { fits = parts-fit P (K + n) es proper; room = b .room; unstamped = b .unstamped }
+      record { fits = parts-fit P (K + n) ds (asked-proper n σ D a); room = b .room; unstamped = b .unstamped }
 
   module _ (s′ : State) (r : ℕ) (e : Ended N cs s s′ r) where
     -- Where there is no cycle, the times are the least solution above the start values.
     pub ended-least : N ≤ r → Least P n σ D (at (s′ .time))
     ended-least l =
         record {
-          solution = f .enough _ (satisfies-parts P (at (s′ .time)) es .1 (e .solved l));
+          solution = satisfies-parts P (at (s′ .time)) ds .1 (e .solved l);
           above = above;
           least = least;
         }
@@ -92,10 +90,10 @@ module _ (P n : ℕ) (σ : List Step) (D : Starts) (a : Asked n σ D) (es : List
         above i m =
             rw (e .after) (omega (arith, b .now i m, passes-rise N cs (e .passes) s (begins-start .fits) (b .room) i))
 
-        least : (y : ℕ → ℕ) → Satisfies P y (demands n σ D) → Above P K y → (v : ℕ) → v < N → at (s′ .time) v ≤ y v
+        least : (y : ℕ → ℕ) → Satisfies P y ds → Above P K y → (v : ℕ) → v < N → at (s′ .time) v ≤ y v
         least y h u v w =
             rw (e .after)
-            (outcome-least N cs s begins-start (e .passes) y (satisfies-parts P y es .0 (λ d m. h d (f .among d m)))
+            (outcome-least N cs s begins-start (e .passes) y (satisfies-parts P y ds .0 h)
             (λ m q. below m q (decLe m K)) v w)
           where
             below : (m : ℕ) → m < N → Dec (m ≤ K) → at (s .time) m ≤ y m
@@ -104,11 +102,10 @@ module _ (P n : ℕ) (σ : List Step) (D : Starts) (a : Asked n σ D) (es : List
 
     -- The vertices of a cycle, written out, are a loop.
     pub ended-loop : N ≤ P → r < N → (out out′ : List ℕ) (m : ℕ) → Wrote (s′ .parent) r out out′ m
-        → Loop (demands n σ D) (take m out′)
+        → Loop ds (take m out′)
     ended-loop few l out out′ m w =
-        cycle-is-loop P (K + n) (demands n σ D) (take m out′) (asked-proper n σ D a)
-        (cycle-among cs (allInParts P (demands n σ D)) (take m out′) more
-        (outcome-wrote N cs s begins-start (e .passes) r m out out′ (on (e .cycle l)) (wrote w)))
+        cycle-is-loop P (K + n) ds (take m out′) (asked-proper n σ D a)
+        (outcome-wrote N cs s begins-start (e .passes) r m out out′ (on (e .cycle l)) (wrote w))
         (omega (arith, short, ring-few (at (s′ .parent)) N r m (w .ring) (e .cycle l .inside)))
       where
         on : OnCycle N (s′ .parent) (s′ .stamp) r
@@ -117,10 +114,6 @@ module _ (P n : ℕ) (σ : List Step) (D : Starts) (a : Asked n σ D) (es : List
 
         wrote : Wrote (s′ .parent) r out out′ m → Wrote (passesOf cs (e .passes) s .parent) r out out′ m
         wrote h = rw (e .after) at h
-
-        more : (c : Constraint) → List·Memᴰ c cs → List·Memᴰ c (allInParts P (demands n σ D))
-        more = every-map (λ c. List·Memᴰ c (allInParts P (demands n σ D))) (inParts P) es .1
-            (λ d k. Memᴰ·map (inParts P) (f .among d k))
 
         short : length (take m out′) ≤ m
         short = omega (arith, length-take m out′)

@@ -23,20 +23,6 @@ unfolding sum tools.sum
 sum-same f g zero h = refl
 sum-same f g (suc n) h = omega (arith, sum-same f g n (λ k l. h k (omega arith)), h n (omega arith))
 
--- a negative cycle of some constraints is one of all
-pub cycle-among : (bs cs : List Constraint) (vs : List ℕ) → ((c : Constraint) → List·Memᴰ c bs → List·Memᴰ c cs)
-    → NegativeCycle bs vs → NegativeCycle cs vs
-cycle-among bs cs vs h c =
-    record {
-      by = c .by;
-      member = λ k l. h (c .by k) (c .member k l);
-      from = c .from;
-      to = c .to;
-      close = c .close;
-      distinct = c .distinct;
-      negative = c .negative;
-    }
-
 module _ (P M : ℕ) (ds : List Demand) (vs : List ℕ) (proper : Every (Proper M) ds)
     (c : NegativeCycle (allInParts P ds) vs) where
   -- a demand behind a constraint of the cycle

@@ -15,7 +15,7 @@ use Rattle.paths.specs.State.{State, state}
 use Rattle.paths.specs.Bounds.{Room}
 use Rattle.paths.specs.Code.{Wrote, wrote-rest, Returns, cycle-returns}
 use Rattle.plan.specs.Answer.{Rooms, rooms, momentsIn, startsIn, Found, Refuted}
-use Rattle.plan.specs.InParts.{allInParts, serves-all}
+use Rattle.plan.specs.InParts.{allInParts}
 use Rattle.plan.specs.Earliest.{Least, solution-now}
 use Rattle.plan.specs.Smallest.{momentsOf, startsOf, least-planned}
 use Rattle.plan.specs.LeastStart.{leastStart}
@@ -104,7 +104,7 @@ module _ (t : Table) (k : ℕ) (z : Sized t k) where
         subst (λ (m : ℕ). Begins (m + n + 1) m n s → Ended (m + n + 1) (allInParts (m + n + 1) (demandsOf t k)) s s′ u
         → m + n + 1 ≤ u → Least (m + n + 1) n σ anyStarts (at (s′ .time)))
         (length-rounds t k)
-        (λ b e. ended-least (length σ + n + 1) n σ anyStarts (sized-asked t k z) (demandsOf t k) (serves-all _ _) s b s′ u e)
+        (λ b e. ended-least (length σ + n + 1) n σ anyStarts (sized-asked t k z) s b s′ u e)
         b e l
 
     loop : u < P → (out out′ : List ℕ) (m : ℕ) → Wrote (s′ .parent) u out out′ m → Loop (demandsOf t k) (take m out′)
@@ -113,7 +113,7 @@ module _ (t : Table) (k : ℕ) (z : Sized t k) where
         subst (λ (m : ℕ). Begins (m + n + 1) m n s → Ended (m + n + 1) (allInParts (m + n + 1) (demandsOf t k)) s s′ u
         → u < m + n + 1 → (out out′ : List ℕ) (i : ℕ) → Wrote (s′ .parent) u out out′ i → Loop (demandsOf t k) (take i out′))
         (length-rounds t k)
-        (λ b e l. ended-loop (length σ + n + 1) n σ anyStarts (sized-asked t k z) (demandsOf t k) (serves-all _ _) s b s′ u e
+        (λ b e l. ended-loop (length σ + n + 1) n σ anyStarts (sized-asked t k z) s b s′ u e
         (omega arith) l)
         b e l
 
@@ -169,7 +169,7 @@ module _ (t : Table) (k : ℕ) (z : Sized t k) where
               planned-same P n σ anyStarts (sized-asked t k z)
               (momentsOf x) (startsOf P (demandsOf t k) (length σ) x) (momentsIn times′) (startsIn starts′)
               moments smallest
-              (least-planned P n σ anyStarts (omega arith) (sized-asked t k z) (demandsOf t k) (serves-all _ _) x (least l));
+              (least-planned P n σ anyStarts (omega arith) (sized-asked t k z) x (least l));
           times = record {
             size = ap length e ∙ length-written _ K (r .times) (room .times);
             rest = rw (length-rounds t k) (rw e (drop-written _ K (r .times)));

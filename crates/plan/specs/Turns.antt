@@ -1,33 +1,25 @@
--- A pass over the demands of a table, demand by demand.
-use mathlib.Core.Path.{_≡_, refl, sym, ap, _∙_}
-use mathlib.Core.Logic.{inl, inr}
-use mathlib.Core.Bool.{Bool, false, _||_, or-assoc, or-true, or-false}
-use mathlib.Core.List.{List, [], _∷_, List·Memᴰ}
-use Prim.Native.Nat.{ℕ, suc, _+_, _*_, _-_, _≤_, _<_, _^_}
+-- Checks of a list of demands, part by part, and a pass over the demands of a table.
+use mathlib.Core.Path.{_≡_, refl, sym, ap, subst, _∙_}
+use mathlib.Core.Bool.{Bool, false}
+use mathlib.Core.List.{List, [], _++_, append-assoc, append-nil}
+use Prim.Native.Nat.{ℕ, _+_, _*_, _≤_, _^_}
 use native.Mathlib.Omega.{arith}
-use native.Mathlib.Numerals.{add-one}
 use lib.ListN.{length}
 use Rattle.table.specs.declared.Table.{Table}
 use Rattle.runs.specs.declared.Demand.{Demand}
-use Rattle.constraints.specs.declared.Cursor.{Cursor}
-use Rattle.constraints.specs.Cursor.{firstOf}
-use Rattle.constraints.specs.Rest.{demandsOf, rest}
-use Rattle.constraints.specs.Constraints.{At, Moved, rest-first, at-first}
+use Rattle.runs.specs.Demand.{stepsDemands, startDemands, anyStarts}
+use Rattle.runs.specs.DemandOrder.{demands-is}
+use Rattle.constraints.specs.Rest.{demandsOf}
 use Rattle.constraints.specs.Count.{demands-bounded}
-use Rattle.paths.specs.Places as state
-use Rattle.paths.specs.Constraint.{Constraint}
-use Rattle.paths.specs.State.{State, relaxOf, passOf, hitsOf}
-use Rattle.paths.specs.Bounds.{SameSize, Room, room-kept, relax-size, Under, relax-under, Relaxable, relaxable}
-use Rattle.paths.specs.Code.{Check, Progress, Joined}
-use Rattle.plan.specs.InParts.{inParts, allInParts}
-use Rattle.plan.specs.Sized.{Sized, partsOf, constraintsOf, unit, sized-proper, sized-gain, sized-loss}
+use Rattle.constraints.specs.Rounds.{length-rounds}
+use Rattle.paths.specs.State.{State}
+use Rattle.paths.specs.Bounds.{SameSize, Room, Under}
+use Rattle.paths.specs.Code.{Progress}
+use Rattle.plan.specs.Sized.{Sized, partsOf, roundsOf, constraintsOf, sized-proper, sized-gain, sized-loss}
+use Rattle.plan.specs.Checks.{Checkable, Checked, length-parts, checked-none, checked-append, checked-size}
+use Rattle.plan.specs.Checks.{checkable-left, checkable-right}
 
--- What a check of a demand asks: its bounds in parts fit.
-pub record Fine (P : ℕ) (d : Demand) : Type 0 where
-  pub down : d .down * P ≤ unit
-  pub up : d .up * P ≤ unit
-
--- What a pass asks: room for all moments, and times and a stamp far below 2^64.
+-- What a pass asks.
 pub record Passable (t : Table) (k : ℕ) (s : State) (q : ℕ) : Type 0 where
   pub sized : Sized t k
   pub room : Room (partsOf t k) s
@@ -39,140 +31,92 @@ pub record Swept (t : Table) (k q : ℕ) (s s′ : State) (h : Bool) (r : ℕ) :
   pub progress : Progress (constraintsOf t k) q s s′ h
   pub stamp : r ≡ q + length (constraintsOf t k)
 
--- In a pass that began with s₀ and q₀: s, q and h are the state, the stamp and the flag at the cursor c, and what is left
--- to check leads to the outcome of the whole.
-pub record Turn (t : Table) (k q₀ : ℕ) (s₀ : State) (c : Cursor) (q : ℕ) (s : State) (h : Bool) : Type 0 where
-  pub at : At t k c
-  pub from : q₀ ≤ q
-  pub count : q + length (rest t k c) ≡ q₀ + length (demandsOf t k)
-  pub after : passOf (allInParts (partsOf t k) (rest t k c)) q s ≡ passOf (constraintsOf t k) q₀ s₀
-  pub hits : (h || hitsOf (allInParts (partsOf t k) (rest t k c)) q s) ≡ hitsOf (constraintsOf t k) q₀ s₀
-  pub size : SameSize s₀ s
-  pub room : Room (partsOf t k) s
-  pub under : Under (partsOf t k) (2 ^ 62 + unit * (q - q₀)) (s .time)
+-- In checks of ds that began with h₀, q₀ and s₀: some of ds are checked, which gave h, q and s, and these are left.
+pub record Turn (P : ℕ) (ds : List Demand) (h₀ : Bool) (q₀ : ℕ) (s₀ : State) (left : List Demand) (h : Bool) (q : ℕ)
+    (s : State) : Type 0 where
+  pub past : List Demand
+  pub split : past ++ left ≡ ds
+  pub checked : Checked P past h₀ q₀ s₀ s h q
+  pub able : Checkable P left s q
 
-joined : (h r g : Bool) → Joined h r g → g ≡ (h || r)
-joined h r g (inl e) = e .1 ∙ sym (or-true h) ∙ ap (λ (b : Bool). h || b) (sym (e .0))
-joined h r g (inr e) = e .1 ∙ sym (or-false h) ∙ ap (λ (b : Bool). h || b) (sym (e .0))
+module _ (P : ℕ) (ds : List Demand) (h₀ : Bool) (q₀ : ℕ) (s₀ : State) where
+  -- before the first
+  pub turn-first : Checkable P ds s₀ q₀ → Turn P ds h₀ q₀ s₀ ds h₀ q₀ s₀
+  turn-first a = record { past = []; split = refl; checked = checked-none P h₀ q₀ s₀; able = a }
 
-pub length-parts : (P : ℕ) (ds : List Demand) → length (allInParts P ds) ≡ length ds
-length-parts P [] = refl
-length-parts P (d ∷ ds) = ap suc (length-parts P ds)
+  -- the lists are as long as before
+  pub turn-size : (left : List Demand) (h : Bool) (q : ℕ) (s : State) → Turn P ds h₀ q₀ s₀ left h q s → SameSize s₀ s
+  turn-size left h q s u = checked-size P (u .past) left h₀ q₀ s₀ s h q (u .checked)
 
-module _ (t : Table) (k q₀ : ℕ) (s₀ : State) (z : Sized t k) where
-  abbrev P : ℕ
-  P = partsOf t k
+  -- the checks of the next demands xs
+  module _ (rest xs left : List Demand) (e : rest ≡ xs ++ left) (h : Bool) (q : ℕ) (s : State)
+      (u : Turn P ds h₀ q₀ s₀ rest h q s) where
+    pub turn-able : Checkable P xs s q
+    turn-able = checkable-left P xs left s q (rw e at u .able)
 
-  -- at the first demand
-  pub turn-first : Passable t k s₀ q₀ → (c : Cursor) → c ≡ firstOf (k * t .steps) → Turn t k q₀ s₀ c q₀ s₀ false
-  unfolding constraintsOf
-  turn-first p c e =
-      rw e
-      (record {
-        at = at-first t k (z .good) (z .some);
-        from = omega arith;
-        count = ap (λ ds. q₀ + length ds) all;
-        after = ap (λ ds. passOf (allInParts P ds) q₀ s₀) all;
-        hits = ap (λ ds. hitsOf (allInParts P ds) q₀ s₀) all;
-        size = record { time = refl; parent = refl; stamp = refl };
-        room = p .room;
-        under = λ v w. omega (arith, p .under v w);
-      })
-    where
-      all : rest t k (firstOf (k * t .steps)) ≡ demandsOf t k
-      all = rest-first t k (z .good) (z .some)
-
-  -- stamps are few
-  pub turn-few : (c : Cursor) (q : ℕ) (s : State) (h : Bool) → Turn t k q₀ s₀ c q s h → q ≤ q₀ + 132102
-  turn-few c q s h u = omega (arith, u .count, demands-bounded t k (z .good) (z .few))
-
-  -- before a check
-  module _ (c : Cursor) (q : ℕ) (s : State) (h : Bool) (u : Turn t k q₀ s₀ c q s h) (d : Demand)
-      (i : List·Memᴰ d (demandsOf t k)) where
-    pub turn-fine : Fine P d
-    turn-fine =
-        record { down = omega (arith, sized-gain t k z d i); up = omega (arith, sized-loss t k z d i) }
-
-    pub turn-relaxable : Relaxable (inParts P d) s
-    turn-relaxable =
-        relaxable P (2 ^ 62 + unit * (q - q₀)) (inParts P d) s
-        (omega (arith, sized-proper t k z d i .from))
-        (omega (arith, sized-proper t k z d i .to))
-        (u .room)
-        (u .under)
-        (omega (arith, sized-loss t k z d i, turn-few c q s h u))
-        (omega (arith, sized-gain t k z d i, turn-few c q s h u))
-
-  -- after it
-  module _ (c : Cursor) (q : ℕ) (s : State) (h : Bool) (u : Turn t k q₀ s₀ c q s h) (d : Demand) (n : Cursor)
-      (m : Moved t k c d n) where
-    module _ (s′ : State) (r g : Bool) (e : Check (inParts P d) q s s′ r) (j : Joined h r g) where
-      abbrev cs : List Constraint
-      cs = allInParts P (rest t k n)
-
-      abbrev relaxed : State
-      relaxed = relaxOf (inParts P d) q s
-
-      turn-after : passOf cs (q + 1) s′ ≡ passOf (constraintsOf t k) q₀ s₀
-      unfolding passOf
-      turn-after =
-          ap (λ (x : State). passOf cs (q + 1) x) (e .after)
-          ∙ ap (λ (i : ℕ). passOf cs i relaxed) (add-one q)
-          ∙ sym (ap (λ ds. passOf (allInParts P ds) q s) (m .left))
-          ∙ u .after
-
-      turn-hits : (g || hitsOf cs (q + 1) s′) ≡ hitsOf (constraintsOf t k) q₀ s₀
-      unfolding hitsOf
-      turn-hits =
-          ap (λ (b : Bool). b || hitsOf cs (q + 1) s′) (joined h r g j)
-          ∙ or-assoc h r (hitsOf cs (q + 1) s′)
-          ∙ ap (λ (b : Bool). h || (r || b))
-          (ap (λ (x : State). hitsOf cs (q + 1) x) (e .after) ∙ ap (λ (i : ℕ). hitsOf cs i relaxed) (add-one q))
-          ∙ ap (λ (b : Bool). h || (b || hitsOf cs (suc q) relaxed)) (e .raised)
-          ∙ sym (ap (λ ds. h || hitsOf (allInParts P ds) q s) (m .left))
-          ∙ u .hits
-
-      pub turn-next : Turn t k q₀ s₀ n (q + 1) s′ g
-      turn-next =
-          record {
-            at = m .at;
-            count = omega (arith, u .count, ap length (m .left));
-            after = turn-after;
-            hits = turn-hits;
-            size =
-                record {
-                  time = sizes .time ∙ u .size .time;
-                  parent = sizes .parent ∙ u .size .parent;
-                  stamp = sizes .stamp ∙ u .size .stamp;
-                };
-            room = room-kept P s s′ sizes (u .room);
-            from = omega (arith, u .from);
-            under = λ v w. omega (arith, u .from, raised v w);
-          }
-        where
-          sizes : SameSize s s′
-          sizes = rw (e .after) (relax-size (inParts P d) q s)
-
-          raised : (v : ℕ) → v < P → state.at (s′ .time) v ≤ 2 ^ 62 + unit * (q - q₀) + unit
-          raised =
-              rw (e .after)
-              (relax-under P (2 ^ 62 + unit * (q - q₀)) unit (inParts P d) q s
-              (omega (arith, sized-proper t k z d (m .listed) .from))
-              (omega (arith, sized-proper t k z d (m .listed) .to))
-              (sized-gain t k z d (m .listed))
-              (u .room)
-              (u .under))
+    pub turn-more : (s′ : State) (g : Bool) (r : ℕ) → Checked P xs h q s s′ g r → Turn P ds h₀ q₀ s₀ left g r s′
+    turn-more s′ g r c =
+        record {
+          past = u .past ++ xs;
+          split = append-assoc (u .past) xs left ∙ ap (λ l. u .past ++ l) (sym e) ∙ u .split;
+          checked = checked-append P (u .past) xs h₀ q₀ s₀ s h q (u .checked) s′ g r c;
+          able = checkable-right P xs left h q s s′ g r c (rw e at u .able);
+        }
 
   -- after the last
-  pub turn-last : (c : Cursor) (q : ℕ) (s : State) (h : Bool) → Turn t k q₀ s₀ c q s h → rest t k c ≡ []
-      → Swept t k q₀ s₀ s h q
-  unfolding constraintsOf passOf hitsOf
-  turn-last c q s h u e =
-      record {
-        progress =
+  pub turn-last : (h : Bool) (q : ℕ) (s : State) → Turn P ds h₀ q₀ s₀ [] h q s → Checked P ds h₀ q₀ s₀ s h q
+  turn-last h q s u =
+      subst (λ l. Checked P l h₀ q₀ s₀ s h q) (sym (append-nil (u .past)) ∙ u .split) (u .checked)
+
+-- ---- a pass: the demands of the steps, then those of the starts
+abbrev pub stepsPart : Table → ℕ → List Demand
+stepsPart t k = stepsDemands (roundsOf t k) 0 (λ j. length (roundsOf t k) + j)
+
+abbrev pub startsPart : Table → ℕ → List Demand
+startsPart t k = startDemands (k * t .steps) anyStarts 1 (t .clocks)
+
+pub parts-are : (t : Table) (k : ℕ) → demandsOf t k ≡ stepsPart t k ++ startsPart t k
+parts-are t k =
+    demands-is (t .clocks) (roundsOf t k) anyStarts
+    ∙ ap (λ n. stepsPart t k ++ startDemands n anyStarts 1 (t .clocks)) (length-rounds t k)
+
+module _ (t : Table) (k q : ℕ) (s : State) where
+  all-able : Passable t k s q → Checkable (partsOf t k) (stepsPart t k ++ startsPart t k) s q
+  all-able p =
+      subst (λ ds. Checkable (partsOf t k) ds s q) (parts-are t k)
+      (record {
+        slight = λ d m.
             record {
-              hits = sym (or-false h) ∙ sym (ap (λ ds. h || hitsOf (allInParts P ds) q s) e) ∙ u .hits;
-              after = sym (ap (λ ds. passOf (allInParts P ds) q s) e) ∙ u .after;
+              from = omega (arith, sized-proper t k (p .sized) d m .from);
+              to = omega (arith, sized-proper t k (p .sized) d m .to);
+              gain = sized-gain t k (p .sized) d m;
+              loss = sized-loss t k (p .sized) d m;
             };
-        stamp = omega (arith, u .count, ap length e, length-parts P (demandsOf t k));
-      }
+        room = p .room;
+        top = 2 ^ 62;
+        under = p .under;
+        low = omega (arith, demands-bounded t k (p .sized .good) (p .sized .few));
+        stamp = omega (arith, p .stamp, demands-bounded t k (p .sized .good) (p .sized .few));
+      })
+
+  pub steps-able : Passable t k s q → Checkable (partsOf t k) (stepsPart t k) s q
+  steps-able p = checkable-left (partsOf t k) (stepsPart t k) (startsPart t k) s q (all-able p)
+
+  module _ (s′ : State) (h : Bool) (r : ℕ) (c : Checked (partsOf t k) (stepsPart t k) false q s s′ h r) where
+    pub starts-able : Passable t k s q → Checkable (partsOf t k) (startsPart t k) s′ r
+    starts-able p =
+        checkable-right (partsOf t k) (stepsPart t k) (startsPart t k) false q s s′ h r c (all-able p)
+
+    pub pass-swept : (s″ : State) (g : Bool) (n : ℕ) → Checked (partsOf t k) (startsPart t k) h r s′ s″ g n
+        → Swept t k q s s″ g n
+    unfolding constraintsOf
+    pass-swept s″ g n e =
+        record {
+          progress = record { hits = all .hits; after = all .after };
+          stamp = omega (arith, all .stamp, length-parts (partsOf t k) (demandsOf t k));
+        }
+      where
+        all : Checked (partsOf t k) (demandsOf t k) false q s s″ g n
+        all =
+            subst (λ ds. Checked (partsOf t k) ds false q s s″ g n) (sym (parts-are t k))
+            (checked-append (partsOf t k) (stepsPart t k) (startsPart t k) false q s s′ h r c s″ g n e)

@@ -1,8 +1,8 @@
 // The question "plan for k": the earliest moments and the smallest starts of k rounds, or a negative cycle (01: loop).
-use constraints::Cursor;
-use constraints::current;
+use constraints::choose;
 use constraints::first;
-use constraints::next;
+use constraints::guard_demand;
+use constraints::twice;
 use paths::fill;
 use paths::find_cycle;
 use paths::relax;
@@ -16,14 +16,16 @@ use table::Table;
 use trim::trim;
 use wire::parse;
 ghost use mathlib.Core.Path.{_≡_};
-ghost use mathlib.Core.Bool.{Bool};
+ghost use mathlib.Core.Bool.{false, cond, _||_};
+ghost use mathlib.Core.List.{[], _∷_};
 ghost use Prim.Native.Nat.{ℕ, _+_, _*_, _-_, _≤_, _<_, max};
+ghost use lib.Dec.{eqb};
 ghost use Rattle.runs.specs.Parts.{bit, gain};
+ghost use Rattle.runs.specs.Demand.{plus, guardDemands, startDemands, anyStarts};
 ghost use lib.ListN.{length};
+ghost use Rattle.constraints.specs.Cursor.{resetOf};
 ghost use Rattle.paths.specs.Places.{at, written};
 ghost use Rattle.paths.specs.State.{state};
-ghost use Rattle.paths.specs.Bounds.{Relaxable};
-ghost use Rattle.paths.specs.Code.{Check};
 ghost use Rattle.plan.specs.InParts.{inParts};
 ghost use Rattle.plan.specs.Passes.{Ended};
 ghost use Rattle.plan.specs.Sized.{Sized, Tabled, partsOf, roundsOf, constraintsOf};
@@ -31,7 +33,8 @@ ghost use Rattle.plan.specs.Ending.{Ready};
 ghost use Rattle.plan.specs.Lift.{liftOf, startAt, Liftable, Startable};
 ghost use Rattle.plan.specs.Answer.{rooms, Answered, admitOf, admitRooms, Meets, Answers};
 ghost use Rattle.plan.specs.Solve.{Roomy, Spacious};
-ghost use Rattle.plan.specs.Turns.{Fine, Passable, Swept};
+ghost use Rattle.plan.specs.Checks.{Checkable, Checked};
+ghost use Rattle.plan.specs.Turns.{Passable, Swept, stepsPart};
 
 // The answer to the question "plan for k": the parts to a tick; or the length of a loop; or why it is refused.
 pub enum Outcome {
@@ -46,7 +49,7 @@ pub enum Admission {
     Accepted,
 }
 
-// What a pass gives: whether it raised a time, and the stamp of the next check.
+// What checks give: whether one has raised a time, and the stamp of the next check.
 struct Sweep {
     raised: bool,
     stamp: u64,
@@ -59,22 +62,169 @@ fn bit_of(strict: bool) -> u64
     if strict { 1 } else { 0 }
 }
 
-// One check of a demand in parts, with the stamp q: whether it raised a time.
+// Whether one of the two holds.
+fn either(a: bool, b: bool) -> bool
+    ensures { λ r. ⌜ r ≡ (a || b) ⌝ }
+{
+    if a { true } else { b }
+}
+
+// "From a to b of 0": moment b is not after moment a.
+fn not_after(from: usize, to: usize) -> Demand
+    ensures { λ r. ⌜ r ≡ plus from to 0 false ⌝ }
+{
+    Demand {
+        from,
+        to,
+        up: 0,
+        down: 0,
+        strict: false,
+    }
+}
+
+// A check of a demand in parts, after checks that gave w.
 fn check(
     parts: u64,
     d: Demand,
     time: &mut [u64],
     parent: &mut [u64],
     stamp: &mut [u64],
-    q: u64,
-) -> bool
-    requires { ⌜ Fine parts d × Relaxable (inParts parts d) (state (now time) (now parent) (now stamp)) ⌝ }
-    ensures { λ r. ⌜ Check (inParts parts d) q
+    w: Sweep,
+) -> Sweep
+    requires { ⌜ Checkable parts (d ∷ []) (state (now time) (now parent) (now stamp)) (w .stamp) ⌝ }
+    ensures { λ r. ⌜ Checked parts (d ∷ []) (w .raised) (w .stamp)
         (state (now (time .entry)) (now (parent .entry)) (now (stamp .entry)))
-        (state (now (time .exit)) (now (parent .exit)) (now (stamp .exit))) r ⌝ }
+        (state (now (time .exit)) (now (parent .exit)) (now (stamp .exit))) (r .raised) (r .stamp) ⌝ }
 {
     let gain = d.down * parts + bit_of(d.strict);
-    relax(time, parent, stamp, d.from, d.to, gain, d.up * parts, q)
+    let loss = d.up * parts;
+    let up = relax(time, parent, stamp, d.from, d.to, gain, loss, w.stamp);
+    Sweep {
+        raised: either(w.raised, up),
+        stamp: w.stamp + 1,
+    }
+}
+
+// The one or two checks of a guard at moment i, when its clock was last reset at moment z.
+fn check_guard(
+    parts: u64,
+    g: Guard,
+    z: usize,
+    i: usize,
+    time: &mut [u64],
+    parent: &mut [u64],
+    stamp: &mut [u64],
+    w: Sweep,
+) -> Sweep
+    requires { ⌜ Checkable parts (guardDemands (g .relation) (g .constant) z i)
+        (state (now time) (now parent) (now stamp)) (w .stamp) ⌝ }
+    ensures { λ r. ⌜ Checked parts (guardDemands (g .relation) (g .constant) z i) (w .raised) (w .stamp)
+        (state (now (time .entry)) (now (parent .entry)) (now (stamp .entry)))
+        (state (now (time .exit)) (now (parent .exit)) (now (stamp .exit))) (r .raised) (r .stamp) ⌝ }
+{
+    let relation = g.relation;
+    let first = guard_demand(relation, g.constant, z, i, false);
+    let once = check(parts, first, time, parent, stamp, w);
+    if !twice(relation) {
+        return once;
+    }
+    let second = guard_demand(relation, g.constant, z, i, true);
+    check(parts, second, time, parent, stamp, once)
+}
+
+// The step of a round that follows step s.
+fn following(s: usize, steps: usize) -> usize
+    requires { ⌜ s < 16 ⌝ }
+    ensures { λ r. ⌜ r ≡ cond (eqb (s + 1) steps) 0 (s + 1) ⌝ }
+{
+    if s + 1 == steps { 0 } else { s + 1 }
+}
+
+// The clocks that step s resets were last reset at its moment.
+fn reset_clocks(flags: &[bool; 119], s: usize, moment: usize, resets: &mut [usize])
+    requires { ⌜ (length (now flags) ≡ 119) × (s ≤ 16) × (length (now resets) ≡ 7) ⌝ }
+    ensures { λ _. ⌜ now (resets .exit) ≡ resetOf (now (flags .entry)) s moment (now (resets .entry)) ⌝ }
+{
+    let mut j: usize = 0;
+    while j < 7 {
+        resets[j] = choose(flags[7 * s + j], moment, resets[j]);
+        j += 1;
+    }
+}
+
+// The checks of the demands of each step: its order demand, then its guards. Of the steps i are past, and `begun` says whether
+// the order demand of the next one is checked; it is step s of its round, and its next guard is at place g of the table.
+// One loop for steps and guards, since a table is too large to hand it over for each step.
+fn check_steps(
+    t: Table,
+    k: usize,
+    time: &mut [u64],
+    parent: &mut [u64],
+    stamp: &mut [u64],
+    w: Sweep,
+) -> Sweep
+    requires { ⌜ Sized t k × Checkable (partsOf t k) (stepsPart t k) (state (now time) (now parent) (now stamp)) (w .stamp) ⌝ }
+    ensures { λ r. ⌜ Checked (partsOf t k) (stepsPart t k) (w .raised) (w .stamp)
+        (state (now (time .entry)) (now (parent .entry)) (now (stamp .entry)))
+        (state (now (time .exit)) (now (parent .exit)) (now (stamp .exit))) (r .raised) (r .stamp) ⌝ }
+{
+    let ends = t.ends;
+    let flags = t.resets;
+    let total = k * t.steps;
+    let parts = (total + t.clocks + 1) as u64;
+    let c = first(total);
+    let mut resets = c.resets;
+    let mut swept = w;
+    let mut i: usize = 0;
+    let mut s: usize = 0;
+    let mut g: usize = 0;
+    let mut begun = false;
+    while i < total {
+        if !begun {
+            swept = check(parts, not_after(i + 1, i), time, parent, stamp, swept);
+            g = ends[s];
+            begun = true;
+            continue;
+        }
+        if g < ends[s + 1] {
+            let guard = t.guards[g];
+            let clock = guard.clock;
+            let z = resets[clock];
+            swept = check_guard(parts, guard, z, i + 1, time, parent, stamp, swept);
+            g += 1;
+            continue;
+        }
+        reset_clocks(&flags, s, i + 1, &mut resets);
+        s = following(s, t.steps);
+        i += 1;
+        begun = false;
+    }
+    swept
+}
+
+// The checks of the start demand of each clock.
+fn check_starts(
+    total: usize,
+    clocks: usize,
+    parts: u64,
+    time: &mut [u64],
+    parent: &mut [u64],
+    stamp: &mut [u64],
+    w: Sweep,
+) -> Sweep
+    requires { ⌜ (total ≤ 1024) × (clocks ≤ 6) × Checkable parts (startDemands total anyStarts 1 clocks)
+        (state (now time) (now parent) (now stamp)) (w .stamp) ⌝ }
+    ensures { λ r. ⌜ Checked parts (startDemands total anyStarts 1 clocks) (w .raised) (w .stamp)
+        (state (now (time .entry)) (now (parent .entry)) (now (stamp .entry)))
+        (state (now (time .exit)) (now (parent .exit)) (now (stamp .exit))) (r .raised) (r .stamp) ⌝ }
+{
+    let mut swept = w;
+    let mut j: usize = 1;
+    while j <= clocks {
+        swept = check(parts, not_after(0, total + j), time, parent, stamp, swept);
+        j += 1;
+    }
+    swept
 }
 
 // A check of each demand of k rounds in turn, the first with the stamp q.
@@ -91,26 +241,14 @@ fn pass(
         (state (now (time .entry)) (now (parent .entry)) (now (stamp .entry)))
         (state (now (time .exit)) (now (parent .exit)) (now (stamp .exit))) (r .raised) (r .stamp) ⌝ }
 {
-    let steps = t.steps;
-    let clocks = t.clocks;
-    let ends = t.ends;
-    let flags = t.resets;
-    let total = k * steps;
-    let parts = (total + clocks + 1) as u64;
-    let mut raised = false;
-    let mut at = q;
-    let mut c = first(total);
-    while c.clock <= clocks {
-        let i = c.guard;
-        let g = t.guards[i];
-        let d = current(total, g, c);
-        if check(parts, d, time, parent, stamp, at) {
-            raised = true;
-        }
-        c = next(&ends, &flags, steps, total, g, c);
-        at += 1;
-    }
-    Sweep { raised, stamp: at }
+    let total = k * t.steps;
+    let parts = (total + t.clocks + 1) as u64;
+    let none = Sweep {
+        raised: false,
+        stamp: q,
+    };
+    let swept = check_steps(t, k, time, parent, stamp, none);
+    check_starts(total, t.clocks, parts, time, parent, stamp, swept)
 }
 
 // Passes until one raises nothing, or there is a cycle of parents: a vertex on it, or else the number of moments. Pass number
@@ -175,25 +313,43 @@ fn lift(total: usize, parts: u64, d: Demand, time: &[u64], starts: &mut [u64])
     starts[j] = larger(starts[j], over(asked, given));
 }
 
-// Writes the smallest starts for the moments of a solution to the first places.
+// Writes the smallest starts for the moments of a solution to the first places. The steps are gone through as for the checks.
+// Only the lower side of a guard asks something of a start: its only demand, or its second.
 fn write_starts(t: Table, k: usize, time: &[u64], starts: &mut [u64])
     requires { ⌜ Startable t k (now time) (now starts) ⌝ }
     ensures { λ _. ⌜ now (starts .exit) ≡ written (startAt t k (now (time .entry))) (t .clocks) (now (starts .entry)) ⌝ }
 {
-    let steps = t.steps;
-    let clocks = t.clocks;
     let ends = t.ends;
     let flags = t.resets;
-    let total = k * steps;
-    let parts = (total + clocks + 1) as u64;
-    fill(starts, clocks, 0);
-    let mut c = first(total);
-    while c.clock <= clocks {
-        let i = c.guard;
-        let g = t.guards[i];
-        let d = current(total, g, c);
-        lift(total, parts, d, time, starts);
-        c = next(&ends, &flags, steps, total, g, c);
+    let total = k * t.steps;
+    let parts = (total + t.clocks + 1) as u64;
+    fill(starts, t.clocks, 0);
+    let c = first(total);
+    let mut resets = c.resets;
+    let mut i: usize = 0;
+    let mut s: usize = 0;
+    let mut g: usize = 0;
+    let mut begun = false;
+    while i < total {
+        if !begun {
+            g = ends[s];
+            begun = true;
+            continue;
+        }
+        if g < ends[s + 1] {
+            let guard = t.guards[g];
+            let clock = guard.clock;
+            let relation = guard.relation;
+            let z = resets[clock];
+            let d = guard_demand(relation, guard.constant, z, i + 1, true);
+            lift(total, parts, d, time, starts);
+            g += 1;
+            continue;
+        }
+        reset_clocks(&flags, s, i + 1, &mut resets);
+        s = following(s, t.steps);
+        i += 1;
+        begun = false;
     }
 }
 

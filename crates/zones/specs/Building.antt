@@ -1,19 +1,19 @@
 -- The matrix with no bounds, and one bound tightened, told by their solutions.
-use mathlib.Core.Path.{_≡_, refl, _∙_}
-use mathlib.Core.Logic.{_↔_}
+use mathlib.Core.Path.{_≡_, refl, ap, _∙_}
+use mathlib.Core.Logic.{_⊎_, inl, inr, ⊎-elim, _≢_, _↔_}
 use mathlib.Core.List.{List}
 use Prim.Native.Nat.{ℕ, _+_, _*_, _%_, _≤_, _<_, min}
 use native.Mathlib.Omega.{arith}
 use native.Mathlib.Decide.{ℕ-discrete}
-use lib.ListN.{getD, set, length-set}
+use lib.ListN.{length, getD, set, length-set, replicate, length-replicate, getD-replicate}
 use lib.Seq.{getD-set-same, getD-set-other}
-use Rattle.zones.specs.Choice.{choose, choose-yes, choose-no, choose-cases, both, min-cases}
+use Rattle.zones.specs.Choice.{choose, choose-yes, choose-no, choose-cases, both, min-cases, not-below-zero}
 use Rattle.zones.specs.Bound.{_⊑_, Sat, ⊑-refl, ⊑-trans}
 use Rattle.zones.specs.Values.{sat-mono, sat-self}
 use Rattle.zones.specs.Matrix.{Solves, Flat}
 use Rattle.zones.specs.Codes.{BIAS, NONE, ZERO, bound, bound-none, bound-some, bound-mono, zero-bound}
 use Rattle.zones.specs.Codes.{Coded, coded-top, coded-wider}
-use Rattle.zones.specs.Tab.{tab, length-tab, getD-tab}
+use Rattle.zones.specs.Tab.{tab, length-tab, getD-tab, is-tab}
 use Rattle.zones.specs.Cells.{cell, matrix, Ranged, blankOf, unboundedOf, tightenOf}
 
 -- A cell of a matrix in range is a code in range.
@@ -24,6 +24,43 @@ pub ranged-wider : {D : ℕ} {l : List ℕ} (G : ℕ) → D ≤ G → Ranged D l
 ranged-wider {D} {l} G d r = record { full = r .full; coded = λ k h. coded-wider D G (getD l k 0) d (r .coded k h) }
 
 -- ---- No bounds
+
+-- The weak zero at the first n places of the diagonal, and none elsewhere.
+pub record Diagonal (n : ℕ) (l : List ℕ) : Type 0 where
+  pub full : length l ≡ 441
+  pub on : (k : ℕ) → k % 22 ≡ 0 → k < n * 22 → getD l k 0 ≡ ZERO
+  pub off : (k : ℕ) → k < 441 → (k % 22 ≢ 0) ⊎ (n * 22 ≤ k) → getD l k 0 ≡ NONE
+
+pub diagonal-none : Diagonal 0 (replicate 441 NONE)
+diagonal-none = record {
+  full = length-replicate 441 NONE;
+  on = λ k e h. absurd (not-below-zero k (omega arith));
+  off = λ k h q. getD-replicate 441 k NONE 0 h;
+}
+
+pub diagonal-more : (n : ℕ) (l : List ℕ) → n < 21 → Diagonal n l → Diagonal (n + 1) (set l (n * 22) ZERO)
+diagonal-more n l h d = record { full = length-set l _ _ ∙ d .full; on = on; off = off }
+  where
+    on : (k : ℕ) → k % 22 ≡ 0 → k < (n + 1) * 22 → getD (set l (n * 22) ZERO) k 0 ≡ ZERO
+    on k e b = go (ℕ-discrete k (n * 22))
+      where
+        go : Dec (k ≡ n * 22) → getD (set l (n * 22) ZERO) k 0 ≡ ZERO
+        go (yes q) = rw q (getD-set-same l (n * 22) ZERO 0 (omega (arith, d .full)))
+        go (no q) = getD-set-other l (n * 22) k ZERO 0 q ∙ d .on k e (omega arith)
+
+    off : (k : ℕ) → k < 441 → (k % 22 ≢ 0) ⊎ ((n + 1) * 22 ≤ k) → getD (set l (n * 22) ZERO) k 0 ≡ NONE
+    off k b q =
+        getD-set-other l (n * 22) k ZERO 0 (⊎-elim (λ e. omega arith) (λ e. omega arith) q)
+        ∙ d .off k b (⊎-elim (λ e. inl e) (λ e. inr (omega arith)) q)
+
+pub diagonal-all : (l : List ℕ) → Diagonal 21 l → l ≡ unboundedOf
+unfolding unboundedOf
+diagonal-all l d = is-tab 441 blankOf l (d .full) at
+  where
+    at : (k : ℕ) → k < 441 → getD l k 0 ≡ blankOf k
+    at k h =
+        choose-cases (λ e. getD l k 0 ≡ e) (ℕ-discrete (k % 22) 0) ZERO NONE (λ e. d .on k e (omega arith))
+        (λ n. d .off k h (inl n))
 
 cell-unbounded : (a b : ℕ) → a < 21 → b < 21 → cell unboundedOf a b ≡ choose (ℕ-discrete a b) ZERO NONE
 unfolding unboundedOf
@@ -60,6 +97,11 @@ unbounded-flat N h a ha = rw (diagonal, bound-some ZERO (omega arith)) (record {
     diagonal = cell-unbounded a a (omega arith) (omega arith) ∙ choose-yes (ℕ-discrete a a) ZERO NONE refl
 
 -- ---- One bound tightened
+
+-- By a store of the smaller code.
+pub tighten-is : (l : List ℕ) (a b e v : ℕ) → v ≡ min (cell l a b) e → set l (a * 21 + b) v ≡ tightenOf a b e l
+unfolding tightenOf
+tighten-is l a b e v q = ap (set l (a * 21 + b)) q
 
 module _ (D : ℕ) (l : List ℕ) (small : D ≤ BIAS) (r : Ranged D l)
     (a b e : ℕ) (ha : a < 21) (hb : b < 21) (c : Coded D e) where

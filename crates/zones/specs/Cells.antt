@@ -52,7 +52,7 @@ unfoldable pub turnOf : ℕ → Closing → Closing
 turnOf p (answer false l) = answer false l
 turnOf p (answer true l) = choose (decLe ZERO (cell l p p)) (answer true (pivotOf p l)) (answer false l)
 
--- The pivots 0 .. size - 1 in turn.
-unfoldable pub closeOf : ℕ → List ℕ → Closing
-closeOf zero l = answer true l
-closeOf (suc p) l = turnOf p (closeOf p l)
+-- The pivots from .. to - 1 in turn.
+unfoldable pub closeOf : ℕ → ℕ → List ℕ → Closing
+closeOf from zero l = answer true l
+closeOf from (suc p) l = choose (decLe from p) (turnOf p (closeOf from p l)) (answer true l)

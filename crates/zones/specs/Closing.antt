@@ -9,9 +9,9 @@ use native.Mathlib.Nat.{mul-le-mul-right}
 use native.Mathlib.Decide.{decLe, decLt}
 use native.Mathlib.Numerals.{add-one}
 use lib.ListN.{length, getD}
-use Rattle.zones.specs.Choice.{choose-yes, choose-no, choose-cases, min-is, not-below-zero}
+use Rattle.zones.specs.Choice.{choose, choose-yes, choose-no, choose-cases, min-is, not-below-zero}
 use Rattle.zones.specs.Bound.{_⊑_, _⊕_, weak-zero, ⊑-refl, ⊑-trans}
-use Rattle.zones.specs.Matrix.{Solution, Pivot, Pivots, start, next, pivots-fail, pivots-narrow}
+use Rattle.zones.specs.Matrix.{Solution, OthersSettled, Pivot, Pivots, start, next, pivots-fail, pivots-narrow}
 use Rattle.zones.specs.Closure.{Closure, pivots-closure}
 use Rattle.zones.specs.Linear.{AllWithin, linear}
 use Rattle.zones.specs.Codes.{BIAS, NONE, ZERO, bound-mono, zero-bound, bound-zero}
@@ -72,89 +72,107 @@ pivot-codes D l p small r hp = record { low = low; via = via; kept = kept }
         (⊎-elim (λ e. inl (rw e (⊑-refl _))) (λ e. inr (rw e (way-sums a b ha hb .over)))
         (min-is (cell l a b) (way a b)))
 
--- ---- All pivots
+-- ---- Pivots in turn
 
--- What an answer of closing says of the cells given, which lie within D: where it is true its cells are their closure
--- and lie within (size + 1) * D, and where it is false there is no solution.
-abbrev pub Says : ℕ → ℕ → List ℕ → Closing → Type 0
-Says D size l (answer true z) = Closure size (matrix l) (matrix z) × Ranged (suc size * D) z
-Says D size l (answer false z) = ¬ Solution size (matrix l)
+-- What an answer of closing says of the first `size` vertices of the cells given, which lie within D: where it is true
+-- its cells are their closure and lie within (to + 1) * D, and where it is false there is no solution.
+abbrev pub Says : ℕ → ℕ → ℕ → List ℕ → Closing → Type 0
+Says D size to l (answer true z) = Closure size (matrix l) (matrix z) × Ranged (suc to * D) z
+Says D size to l (answer false z) = ¬ Solution size (matrix l)
 
--- What the first k turns found: k pivots, or some of them and then a diagonal below zero.
-abbrev Found : ℕ → List ℕ → Closing → Type 0
-Found k l (answer true z) = (length z ≡ 441) × Pivots 21 (matrix l) k (matrix z)
-Found k l (answer false z) = (p : ℕ) × (p < k) × Pivots 21 (matrix l) p (matrix z) × (¬ (weak-zero ⊑ matrix z p p))
+-- What the turns from .. k - 1 found: so many pivots, or some of them and then a diagonal below zero.
+abbrev Found : ℕ → ℕ → List ℕ → Closing → Type 0
+Found from k l (answer true z) = (length z ≡ 441) × Pivots 21 from (matrix l) k (matrix z)
+Found from k l (answer false z) =
+    (p : ℕ) × (p < k) × Pivots 21 from (matrix l) p (matrix z) × (¬ (weak-zero ⊑ matrix z p p))
 
-module _ (D : ℕ) (l : List ℕ) (small : 2 * (21 * D) ≤ BIAS) (r : Ranged D l) where
-  found-ranged : (k : ℕ) (z : List ℕ) → Found k l (answer true z) → Ranged (suc k * D) z
+module _ (D : ℕ) (l : List ℕ) (small : 2 * (21 * D) ≤ BIAS) (r : Ranged D l) (from : ℕ) where
+  found-ranged : (k : ℕ) (z : List ℕ) → Found from k l (answer true z) → Ranged (suc k * D) z
   found-ranged k z (s, v) = within-ranged (suc k * D) z s (linear D (ranged-within r) v)
 
-  turn : (k : ℕ) → k < 21 → (c : Closing) → Found k l c → Found (suc k) l (turnOf k c)
+  turn : (k : ℕ) → from ≤ k → k < 21 → (c : Closing) → Found from k l c → Found from (suc k) l (turnOf k c)
   unfolding turnOf
-  turn k h (answer false z) (p, q, v, n) = (p, omega arith, v, n)
-  turn k h (answer true z) f =
-      choose-cases (Found (suc k) l) (decLe ZERO (cell z k k)) (answer true (pivotOf k z)) (answer false z)
+  turn k f h (answer false z) (p, q, v, n) = (p, omega arith, v, n)
+  turn k f h (answer true z) u =
+      choose-cases (Found from (suc k) l) (decLe ZERO (cell z k k)) (answer true (pivotOf k z)) (answer false z)
       passes stops
     where
       fit : 2 * (suc k * D) ≤ BIAS
       fit = omega (arith, mul-le-mul-right D h)
 
       ranged : Ranged (suc k * D) z
-      ranged = found-ranged k z f
+      ranged = found-ranged k z u
 
       top : cell z k k ≤ NONE
       top = coded-top (suc k * D) (cell z k k) (omega (arith, fit)) (cell-coded ranged k k h h)
 
-      passes : ZERO ≤ cell z k k → Found (suc k) l (answer true (pivotOf k z))
+      passes : ZERO ≤ cell z k k → Found from (suc k) l (answer true (pivotOf k z))
       passes t = (
         unfold pivotOf in length-tab 441 (viaOf k z),
-        next (f .1) h (zero-bound (cell z k k) top t) (pivot-codes (suc k * D) z k fit ranged h),
+        next (u .1) f h (zero-bound (cell z k k) top t) (pivot-codes (suc k * D) z k fit ranged h),
       )
 
-      stops : ¬ (ZERO ≤ cell z k k) → Found (suc k) l (answer false z)
-      stops n = (k, omega arith, f .1, λ w. n (bound-zero (cell z k k) w))
+      stops : ¬ (ZERO ≤ cell z k k) → Found from (suc k) l (answer false z)
+      stops n = (k, omega arith, u .1, λ w. n (bound-zero (cell z k k) w))
 
-  found : (k : ℕ) → k ≤ 21 → Found k l (closeOf k l)
+  found : (k : ℕ) → k ≤ 21 → Found from k l (closeOf from k l)
   unfolding closeOf
-  found zero h = (r .full, start)
-  found (suc k) h = turn k h (closeOf k l) (found k (omega arith))
-
-  -- What the program's closing answers is so.
-  pub close-says : (size : ℕ) → size ≤ 21 → Says D size l (closeOf size l)
-  close-says size h = go (closeOf size l) (found size h)
+  found zero h = (r .full, start {k = 0} (omega arith))
+  found (suc k) h = go (found k (omega arith))
     where
-      go : (c : Closing) → Found size l c → Says D size l c
-      go (answer true z) f = (pivots-closure (pivots-narrow (f .1) size (omega arith) h), found-ranged size z f)
-      go (answer false z) (p, q, v, n) = pivots-fail (pivots-narrow v size (omega arith) h) q n
+      go : Found from k l (closeOf from k l)
+          → Found from (suc k) l (choose (decLe from k) (turnOf k (closeOf from k l)) (answer true l))
+      go u =
+          choose-cases (Found from (suc k) l) (decLe from k) (turnOf k (closeOf from k l)) (answer true l)
+          (λ f. turn k f h (closeOf from k l) u) (λ n. (r .full, start {k = suc k} (omega arith)))
+
+  -- What the program's closing answers is so, where the vertices that are not pivoted are settled.
+  pub close-says : (size to : ℕ) → to ≤ size → size ≤ 21 → OthersSettled size from to (matrix l)
+      → Says D size to l (closeOf from to l)
+  close-says size to h k others = go (closeOf from to l) (found to (omega arith))
+    where
+      go : (c : Closing) → Found from to l c → Says D size to l c
+      go (answer true z) u = (pivots-closure (pivots-narrow (u .1) size h k) others, found-ranged to z u)
+      go (answer false z) (p, q, v, n) = pivots-fail (pivots-narrow v size (omega arith) k) (omega arith) n
 
   -- The same of an answer in hand.
-  module _ (size : ℕ) (ok : Bool) (z : List ℕ) (h : size ≤ 21) (e : closeOf size l ≡ answer ok z) where
-    says : (b : Bool) → ok ≡ b → Says D size l (answer b z)
-    says b q = subst (λ c. Says D size l c) (e ∙ ap (λ b. answer b z) q) (close-says size h)
+  module _ (to : ℕ) (ok : Bool) (z : List ℕ) (e : closeOf from to l ≡ answer ok z) where
+    pub close-ranged : to ≤ 21 → ok ≡ true → Ranged (suc to * D) z
+    close-ranged h q =
+        found-ranged to z (subst (λ c. Found from to l c) (e ∙ ap (λ b. answer b z) q) (found to h))
 
-    pub close-true : ok ≡ true → Closure size (matrix l) (matrix z)
-    close-true q = says true q .0
+    module _ (size : ℕ) (h : to ≤ size) (k : size ≤ 21) (others : OthersSettled size from to (matrix l)) where
+      says : (b : Bool) → ok ≡ b → Says D size to l (answer b z)
+      says b q = subst (λ c. Says D size to l c) (e ∙ ap (λ b. answer b z) q) (close-says size to h k others)
 
-    pub close-ranged : ok ≡ true → Ranged (suc size * D) z
-    close-ranged q = says true q .1
+      pub close-true : ok ≡ true → Closure size (matrix l) (matrix z)
+      close-true q = says true q .0
 
-    pub close-false : ok ≡ false → ¬ Solution size (matrix l)
-    close-false q = says false q
+      pub close-false : ok ≡ false → ¬ Solution size (matrix l)
+      close-false q = says false q
 
 -- ---- Turns one by one, as a loop takes them
 
-module _ (l : List ℕ) (p : ℕ) (z : List ℕ) (e : closeOf p l ≡ answer true z) where
-  -- One pivot more where the diagonal is not below zero, and no more where it is.
-  pub close-more : ZERO ≤ cell z p p → closeOf (p + 1) l ≡ answer true (pivotOf p z)
-  unfolding closeOf turnOf
-  close-more t = rw (add-one, e) (choose-yes (decLe ZERO (cell z p p)) _ _ t)
+-- None before `from`,
+pub close-none : (from : ℕ) (l : List ℕ) (k : ℕ) → k ≤ from → closeOf from k l ≡ answer true l
+unfolding closeOf
+close-none from l zero h = refl
+close-none from l (suc k) h = choose-no (decLe from k) _ _ (omega arith)
 
-  pub close-stops : ¬ (ZERO ≤ cell z p p) → (n : ℕ) → p < n → closeOf n l ≡ answer false z
+module _ (from : ℕ) (l : List ℕ) (p : ℕ) (z : List ℕ) (f : from ≤ p) (e : closeOf from p l ≡ answer true z) where
+  -- one pivot more where the diagonal is not below zero, and no more where it is.
+  pub close-more : ZERO ≤ cell z p p → closeOf from (p + 1) l ≡ answer true (pivotOf p z)
+  unfolding closeOf turnOf
+  close-more t = rw (add-one, choose-yes (decLe from p) (turnOf p (closeOf from p l)) (answer true l) f, e)
+      (choose-yes (decLe ZERO (cell z p p)) _ _ t)
+
+  pub close-stops : ¬ (ZERO ≤ cell z p p) → (n : ℕ) → p < n → closeOf from n l ≡ answer false z
   unfolding closeOf turnOf
   close-stops t zero h = absurd (not-below-zero p h)
-  close-stops t (suc n) h = go (close-stops t n) (decLt p n)
+  close-stops t (suc n) h =
+      choose-yes (decLe from n) _ _ (omega arith) ∙ go (close-stops t n) (decLt p n)
     where
-      go : (p < n → closeOf n l ≡ answer false z) → Dec (p < n) → turnOf n (closeOf n l) ≡ answer false z
+      go : (p < n → closeOf from n l ≡ answer false z) → Dec (p < n) → turnOf n (closeOf from n l) ≡ answer false z
       go before (yes k) = rw (before k) refl
       go before (no k) =
           let q : n ≡ p = omega arith in

@@ -2,8 +2,9 @@
 use mathlib.Core.Logic.{_⊎_, inl, inr, ⊎-elim}
 use Prim.Native.Nat.{ℕ, zero, suc, _≤_, _<_}
 use native.Mathlib.Omega.{arith}
+use Rattle.zones.specs.Choice.{not-below-zero}
 use Rattle.zones.specs.Bound.{_⊑_, weak-zero, dec⊑, ⊑-trans}
-use Rattle.zones.specs.Matrix.{Matrix, Solves, Solution, Closed, Flat, pivot, pivot-is}
+use Rattle.zones.specs.Matrix.{Matrix, Solves, Solution, OthersSettled, Closed, Flat, pivot, pivot-is}
 use Rattle.zones.specs.Matrix.{Pivots, start, next, pivots-low, pivots-keep, pivots-back, pivots-fail}
 use Rattle.zones.specs.Floyd.{pivots-closed}
 use Rattle.zones.specs.Extend.{solve}
@@ -24,23 +25,32 @@ pub closure-solution : {N : ℕ} {M C : Matrix} → Closure N M C → Solution N
 closure-solution {N} {C = C} c =
     let (P, l, (x, s)) = solve N C (c .closed) in (P, l, (x, c .back P x l s))
 
--- All pivots in turn make a closure.
-pub pivots-closure : {N : ℕ} {M C : Matrix} → Pivots N M N C → Closure N M C
-pivots-closure r = record { closed = pivots-closed r; low = pivots-low r; keeps = pivots-keep r; back = pivots-back r }
+-- Pivots in turn make a closure where the other vertices are settled.
+pub pivots-closure : {N from k : ℕ} {M C : Matrix} → Pivots N from M k C → OthersSettled N from k M → Closure N M C
+pivots-closure r others = record {
+  closed = pivots-closed r others;
+  low = pivots-low r;
+  keeps = pivots-keep r;
+  back = pivots-back r;
+}
+
+-- Where all are pivoted there are no others.
+pub no-others : (N : ℕ) (M : Matrix) → OthersSettled N 0 N M
+no-others N M c h q = absurd (⊎-elim (not-below-zero c) (λ l. not-below-zero 0 (omega arith)) q)
 
 -- The first k pivots can be made, or there is no solution.
-pivoting : (N : ℕ) (M : Matrix) (k : ℕ) → k ≤ N → ((L : Matrix) × Pivots N M k L) ⊎ (¬ Solution N M)
-pivoting N M zero h = inl (M, start)
+pivoting : (N : ℕ) (M : Matrix) (k : ℕ) → k ≤ N → ((L : Matrix) × Pivots N 0 M k L) ⊎ (¬ Solution N M)
+pivoting N M zero h = inl (M, start {k = 0} (omega arith))
 pivoting N M (suc k) h = ⊎-elim (λ (L, r). go L r (dec⊑ weak-zero (L k k))) inr (pivoting N M k (omega arith))
   where
-    go : (L : Matrix) → Pivots N M k L → Dec (weak-zero ⊑ L k k)
-        → ((L : Matrix) × Pivots N M (suc k) L) ⊎ (¬ Solution N M)
-    go L r (yes z) = inl (pivot k L, next r h z (pivot-is N k L))
+    go : (L : Matrix) → Pivots N 0 M k L → Dec (weak-zero ⊑ L k k)
+        → ((L : Matrix) × Pivots N 0 M (suc k) L) ⊎ (¬ Solution N M)
+    go L r (yes z) = inl (pivot k L, next r (omega arith) h z (pivot-is N k L))
     go L r (no n) = inr (pivots-fail r h n)
 
 -- A matrix has a closure, or no solution.
 pub closing : (N : ℕ) (M : Matrix) → ((C : Matrix) × Closure N M C) ⊎ (¬ Solution N M)
-closing N M = ⊎-elim (λ r. inl (r .0, pivots-closure (r .1))) inr (pivoting N M N (omega arith))
+closing N M = ⊎-elim (λ r. inl (r .0, pivots-closure (r .1) (no-others N M))) inr (pivoting N M N (omega arith))
 
 -- So it is decided whether a matrix has a solution.
 pub solvable : (N : ℕ) (M : Matrix) → Dec (Solution N M)

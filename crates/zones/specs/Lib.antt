@@ -5,11 +5,13 @@ pub mod Matrix
 pub mod Floyd
 pub mod Extend
 pub mod Closure
+pub mod Renaming
 pub mod Tight
 pub mod Weight
 pub mod Linear
 pub mod Codes
 pub mod Tab
 pub mod Cells
+pub mod Rows
 pub mod Building
 pub mod Closing

@@ -1,4 +1,5 @@
--- After k pivots no entry weighs more than k + 1 of the entries given: its way goes through a vertex at most once.
+-- After the pivots from .. k - 1 no entry weighs more than k + 1 of the entries given: its way goes through a vertex at
+-- most once.
 use mathlib.Core.Path.{_≡_, refl}
 use mathlib.Core.Logic.{_⊎_, inl, inr, _≢_}
 use Prim.Native.Nat.{ℕ, zero, suc, _+_, _*_, _≤_, _<_}
@@ -7,8 +8,8 @@ use native.Mathlib.Nat.{mul-le-mul-right}
 use native.Mathlib.Decide.{decLt, ℕ-discrete}
 use Rattle.zones.specs.Choice.{choose, choose-yes, choose-no, choose-cases, not-below-zero}
 use Rattle.zones.specs.Bound.{_⊑_, _⊕_, weak-zero, dec⊑, ⊑-refl, ⊑-trans, ⊕-mono, ⊕-assoc, ⊕-comm, ⊕-left}
-use Rattle.zones.specs.Matrix.{Matrix, ClosedBy, Pivot, Pivots, start, next}
-use Rattle.zones.specs.Floyd.{pivots-closed-by}
+use Rattle.zones.specs.Matrix.{Matrix, Settled, Pivot, Pivots, start, next}
+use Rattle.zones.specs.Floyd.{pivots-settle}
 use Rattle.zones.specs.Weight.{Within, within-sum, within-same, within-wider}
 
 -- Every entry among the first N vertices weighs at most g.
@@ -20,11 +21,12 @@ sumTo : ℕ → (ℕ → ℕ) → ℕ
 sumTo zero u = 0
 sumTo (suc n) u = sumTo n u + u n
 
--- The inner vertices of a way from a to b that weighs as much as the entry: `used` marks each of them once,
--- all lie below k, the entry can be split at each, and it weighs at most one D for each part of the way.
-record Support (k D : ℕ) (M : Matrix) (a b : ℕ) : Type 0 where
+-- The inner vertices of a way from a to b that weighs as much as the entry: `used` marks each of them once, all lie
+-- among from .. k - 1, the entry can be split at each, and it weighs at most one D for each part of the way.
+record Support (from k D : ℕ) (M : Matrix) (a b : ℕ) : Type 0 where
   used : ℕ → ℕ
   once : (c : ℕ) → used c ≤ 1
+  above : (c : ℕ) → c < from → used c ≡ 0
   below : (c : ℕ) → k ≤ c → used c ≡ 0
   split : (c : ℕ) → 0 < used c → M a c ⊕ M c b ⊑ M a b
   near : Within (suc (sumTo k used) * D) (M a b)
@@ -39,35 +41,42 @@ unfolding sumTo
 sum-add zero u v w h = omega arith
 sum-add (suc n) u v w h = omega (arith, sum-add n u v w (λ c l. h c (omega arith)), h n (omega arith))
 
-used-below : {k D : ℕ} {M : Matrix} {a b : ℕ} (s : Support k D M a b) (c : ℕ) → 0 < s .used c → c < k
-used-below {k} s c h = go (decLt c k)
+used-among : {from k D : ℕ} {M : Matrix} {a b : ℕ} (s : Support from k D M a b) (c : ℕ) → 0 < s .used c
+    → (from ≤ c) × (c < k)
+used-among {from} {k} s c h = (go (decLt c from), stop (decLt c k))
   where
     clash : s .used c ≡ 0 → ⊥
     clash e = omega arith
 
-    go : Dec (c < k) → c < k
-    go (yes l) = l
-    go (no l) = absurd (clash (s .below c (omega arith)))
+    go : Dec (c < from) → from ≤ c
+    go (yes l) = absurd (clash (s .above c l))
+    go (no l) = omega arith
 
-module _ (N D p : ℕ) (M L : Matrix) (hp : p < N) (zp : weak-zero ⊑ M p p) (v : Pivot N p M L) (d : ClosedBy p N M)
-    (sup : (a b : ℕ) → a < N → b < N → Support p D M a b) (a b : ℕ) (ha : a < N) (hb : b < N) where
+    stop : Dec (c < k) → c < k
+    stop (yes l) = l
+    stop (no l) = absurd (clash (s .below c (omega arith)))
+
+module _ (N D from p : ℕ) (M L : Matrix) (f : from ≤ p) (hp : p < N) (zp : weak-zero ⊑ M p p) (v : Pivot N p M L)
+    (d : (c : ℕ) → from ≤ c → c < p → Settled N M c) (sup : (a b : ℕ) → a < N → b < N → Support from p D M a b)
+    (a b : ℕ) (ha : a < N) (hb : b < N) where
   -- An entry that the pivot left as it was.
-  same : M a b ⊑ L a b → Support (suc p) D L a b
+  same : M a b ⊑ L a b → Support from (suc p) D L a b
   unfolding sumTo
   same h = record {
     used = s .used;
     once = s .once;
+    above = s .above;
     below = λ c l. s .below c (omega arith);
     split = split;
     near = near;
   }
     where
-      s : Support p D M a b
+      s : Support from p D M a b
       s = sup a b ha hb
 
       split : (c : ℕ) → 0 < s .used c → L a c ⊕ L c b ⊑ L a b
       split c u =
-          let l : c < N = omega (arith, used-below s c u) in
+          let l : c < N = omega (arith, used-among s c u) in
           ⊑-trans (⊕-mono (v .low a c ha l) (v .low c b l hb)) (⊑-trans (s .split c u) h)
 
       near : Within (suc (sumTo p (s .used) + s .used p) * D) (L a b)
@@ -77,14 +86,14 @@ module _ (N D p : ℕ) (M L : Matrix) (hp : p < N) (zp : weak-zero ⊑ M p p) (v
           (within-same _ (M a b) (L a b) h (v .low a b ha hb) (s .near)))
 
   -- An entry that the way through the pivot made tighter: the two ways have no vertex in common.
-  joined : M a p ⊕ M p b ⊑ L a b → ¬ (M a b ⊑ M a p ⊕ M p b) → Support (suc p) D L a b
+  joined : M a p ⊕ M p b ⊑ L a b → ¬ (M a b ⊑ M a p ⊕ M p b) → Support from (suc p) D L a b
   unfolding sumTo
-  joined h n = record { used = used; once = once; below = below; split = split; near = near }
+  joined h n = record { used = used; once = once; above = above; below = below; split = split; near = near }
     where
-      s : Support p D M a p
+      s : Support from p D M a p
       s = sup a p ha hp
 
-      t : Support p D M p b
+      t : Support from p D M p b
       t = sup p b hp hb
 
       here : ℕ → ℕ
@@ -102,15 +111,15 @@ module _ (N D p : ℕ) (M L : Matrix) (hp : p < N) (zp : weak-zero ⊑ M p p) (v
       -- A vertex on both ways would make the way through p no shorter than the entry.
       clash : (c : ℕ) → 0 < s .used c → 0 < t .used c → M a b ⊑ M a p ⊕ M p b
       clash c x y =
-          ⊑-trans (d .tri a b c ha hb l)
+          ⊑-trans (settled .tri a b ha hb)
           (⊑-trans (⊕-mono (⊑-refl (M a c)) (⊕-left (M c b) (M c p ⊕ M p c) round))
           (regroup (⊕-mono (s .split c x) (t .split c y))))
         where
-          l : c < p
-          l = used-below s c x
+          settled : Settled N M c
+          settled = d c (used-among s c x .0) (used-among s c x .1)
 
           round : weak-zero ⊑ M c p ⊕ M p c
-          round = rw (⊕-comm (M c p) (M p c)) (⊑-trans zp (d .tri p p c hp hp l))
+          round = rw (⊕-comm (M c p) (M p c)) (⊑-trans zp (settled .tri p p hp hp))
 
           regroup : (M a c ⊕ M c p) ⊕ (M p c ⊕ M c b) ⊑ M a p ⊕ M p b
               → M a c ⊕ ((M c p ⊕ M p c) ⊕ M c b) ⊑ M a p ⊕ M p b
@@ -129,6 +138,9 @@ module _ (N D p : ℕ) (M L : Matrix) (hp : p < N) (zp : weak-zero ⊑ M p p) (v
           choose-cases (λ w. s .used c + t .used c + w ≤ 1) (ℕ-discrete c p) 1 0
           (λ e. omega (arith, s .below c (omega arith), t .below c (omega arith))) (λ e. omega (arith, apart c))
 
+      above : (c : ℕ) → c < from → used c ≡ 0
+      above c l = omega (arith, s .above c l, t .above c l, here-other c (omega arith))
+
       below : (c : ℕ) → suc p ≤ c → used c ≡ 0
       below c l = omega (arith, s .below c (omega arith), t .below c (omega arith), here-other c (omega arith))
 
@@ -137,11 +149,11 @@ module _ (N D p : ℕ) (M L : Matrix) (hp : p < N) (zp : weak-zero ⊑ M p p) (v
         where
           go : Dec (0 < s .used c) → Dec (0 < t .used c) → Dec (c ≡ p) → L a c ⊕ L c b ⊑ L a b
           go (yes x) y e =
-              let l : c < N = omega (arith, used-below s c x) in
+              let l : c < N = omega (arith, used-among s c x) in
               ⊑-trans (⊕-mono (v .low a c ha l) (v .via c b l hb))
               (⊑-trans (rw (← ⊕-assoc (M a c) (M c p) (M p b)) (⊕-mono (s .split c x) (⊑-refl (M p b)))) h)
           go (no x) (yes y) e =
-              let l : c < N = omega (arith, used-below t c y) in
+              let l : c < N = omega (arith, used-among t c y) in
               ⊑-trans (⊕-mono (v .via a c ha l) (v .low c b l hb))
               (⊑-trans (rw (⊕-assoc (M a p) (M p c) (M c b)) (⊕-mono (⊑-refl (M a p)) (t .split c y))) h)
           go (no x) (no y) (yes e) = rw e (⊑-trans (⊕-mono (v .low a p ha hp) (v .low p b hp hb)) h)
@@ -166,29 +178,29 @@ module _ (N D p : ℕ) (M L : Matrix) (hp : p < N) (zp : weak-zero ⊑ M p p) (v
           (within-same _ (M a p ⊕ M p b) (L a b) h (v .via a b ha hb)
           (within-sum _ _ (M a p) (M p b) (s .near) (t .near))))
 
-  next-support : Support (suc p) D L a b
+  next-support : Support from (suc p) D L a b
   next-support = go (v .kept a b ha hb) (dec⊑ (M a b) (M a p ⊕ M p b))
     where
-      go : (M a b ⊑ L a b) ⊎ (M a p ⊕ M p b ⊑ L a b) → Dec (M a b ⊑ M a p ⊕ M p b) → Support (suc p) D L a b
+      go : (M a b ⊑ L a b) ⊎ (M a p ⊕ M p b ⊑ L a b) → Dec (M a b ⊑ M a p ⊕ M p b) → Support from (suc p) D L a b
       go (inl h) e = same h
       go (inr h) (yes e) = same (⊑-trans e h)
       go (inr h) (no n) = joined h n
 
-support : {N k : ℕ} {M L : Matrix} (D : ℕ) → AllWithin N D M → Pivots N M k L → (a b : ℕ) → a < N → b < N
-    → Support k D L a b
-unfolding sumTo
-support {M = M} D w start a b ha hb = record {
+support : {N from k : ℕ} {M L : Matrix} (D : ℕ) → AllWithin N D M → Pivots N from M k L → (a b : ℕ) → a < N → b < N
+    → Support from k D L a b
+support {M = M} D w (start f) a b ha hb = record {
   used = λ c. 0;
   once = λ c. omega arith;
+  above = λ c h. refl;
   below = λ c h. refl;
   split = λ c h. absurd (not-below-zero 0 h);
   near = within-wider D _ (M a b) (omega arith) (w a b ha hb);
 }
-support {N} D w (next {k} {K} {L} r h z v) a b ha hb =
-    next-support N D k K L h z v (pivots-closed-by r) (λ i j hi hj. support D w r i j hi hj) a b ha hb
+support {N} {from} D w (next {k} {K} {L} r f h z v) a b ha hb =
+    next-support N D from k K L f h z v (pivots-settle r) (λ i j hi hj. support D w r i j hi hj) a b ha hb
 
--- From entries within D, k pivots make entries within (k + 1) * D.
-pub linear : {N k : ℕ} {M L : Matrix} (D : ℕ) → AllWithin N D M → Pivots N M k L → AllWithin N (suc k * D) L
+-- From entries within D, the pivots from .. k - 1 make entries within (k + 1) * D.
+pub linear : {N from k : ℕ} {M L : Matrix} (D : ℕ) → AllWithin N D M → Pivots N from M k L → AllWithin N (suc k * D) L
 linear {k = k} {L = L} D w r a b ha hb =
     let s = support D w r a b ha hb in
     within-wider (suc (sumTo k (s .used)) * D) _ (L a b)

@@ -1,8 +1,10 @@
 // Difference bound matrices of 21 vertices, closed by Floyd and Warshall's pivots.
 ghost use mathlib.Core.Path.{_≡_};
 ghost use Prim.Native.Nat.{_<_, _≤_, _^_, max, min};
-ghost use Rattle.zones.specs.Codes.{Coded, sumOf};
-ghost use Rattle.zones.specs.Cells.{cell, Ranged, blankOf, unboundedOf, tightenOf, pivotOf, answer, closeOf};
+ghost use lib.ListN.{length};
+ghost use Rattle.zones.specs.Codes.{ZERO, Coded, sumOf};
+ghost use Rattle.zones.specs.Cells.{cell, Ranged, unboundedOf, tightenOf, pivotOf, answer, closeOf};
+ghost use Rattle.zones.specs.Rows.{RowReady, RowTo};
 
 // The code of no bound.
 pub const NONE: u64 = 4611686018427387904;
@@ -53,21 +55,14 @@ fn sum(e: u64, f: u64) -> u64
     e + f - BASE - weak
 }
 
-// The cell at k of the matrix with no bounds.
-fn blank(k: usize) -> u64
-    ensures { λ r. ⌜ r ≡ blankOf k ⌝ }
-{
-    if k % 22 == 0 { ZERO } else { NONE }
-}
-
 // The matrix with no bounds: the weak zero from each vertex to itself, and none elsewhere.
 pub fn unbounded() -> Matrix
     ensures { λ r. ⌜ r .cells ≡ unboundedOf ⌝ }
 {
     let mut cells = [NONE; 441];
     let mut i: usize = 0;
-    while i < 441 {
-        cells[i] = blank(i);
+    while i < 21 {
+        cells[i * 22] = ZERO;
         i += 1;
     }
     Matrix { cells: cells }
@@ -82,55 +77,60 @@ pub fn entry(m: Matrix, a: usize, b: usize) -> u64
 }
 
 // The bound from a to b, tightened by the code e.
-pub fn tighten(m: Matrix, a: usize, b: usize, e: u64) -> Matrix
-    requires { ⌜ (a < 21) × (b < 21) ⌝ }
-    ensures { λ r. ⌜ r .cells ≡ tightenOf a b e (m .cells) ⌝ }
+pub fn tighten(cells: &mut [u64], a: usize, b: usize, e: u64)
+    requires { ⌜ (a < 21) × (b < 21) × (length (now cells) ≡ 441) ⌝ }
+    ensures { λ _. ⌜ now (cells .exit) ≡ tightenOf a b e (now (cells .entry)) ⌝ }
 {
-    let mut out = m;
     let at = a * 21 + b;
-    let old = m.cells[at];
-    out.cells[at] = tighter(old, e);
-    out
+    let old = cells[at];
+    cells[at] = tighter(old, e);
 }
 
-// Every bound, or the way through p where that is tighter.
-pub fn pivot(m: Matrix, p: usize) -> Matrix
-    requires { ⌜ (p < 21) × (Ranged (2 ^ 57) (m .cells)) ⌝ }
-    ensures { λ r. ⌜ r .cells ≡ pivotOf p (m .cells) ⌝ }
+// Row a: every bound, or the way through p where that is tighter.
+fn pivot_row(cells: &mut [u64], a: usize, p: usize)
+    requires { ⌜ RowReady a p (now cells) ⌝ }
+    ensures { λ _. ⌜ RowTo a p 21 (now (cells .entry)) (now (cells .exit)) ⌝ }
 {
-    let mut out = [NONE; 441];
-    let mut k: usize = 0;
-    while k < 441 {
-        let old = m.cells[k];
-        let first = m.cells[k / 21 * 21 + p];
-        let second = m.cells[p * 21 + k % 21];
-        let way = sum(first, second);
-        out[k] = tighter(old, way);
-        k += 1;
+    let first = cells[a * 21 + p];
+    if first == NONE {
+        return;
     }
-    Matrix { cells: out }
+    let mut b: usize = 0;
+    while b < 21 {
+        let old = cells[a * 21 + b];
+        let second = cells[p * 21 + b];
+        let way = sum(first, second);
+        cells[a * 21 + b] = tighter(old, way);
+        b += 1;
+    }
 }
 
-// The pivots 0 .. size - 1 in turn, up to the first diagonal below zero. An entry within 2^52 ticks stays within
-// 21 times that before the last pivot, so that no sum wraps.
-pub fn close(m: Matrix, size: usize) -> Closing
-    requires { ⌜ (size ≤ 21) × (Ranged (2 ^ 52) (m .cells)) ⌝ }
-    ensures { λ r. ⌜ closeOf size (m .cells) ≡ answer (r .ok) (r .zone .cells) ⌝ }
+// Every bound, or the way through p where that is tighter. Row by row in place, since a pivot at a diagonal that is not
+// below zero leaves its own row as it is.
+fn pivot(cells: &mut [u64], p: usize)
+    requires { ⌜ (p < 21) × (Ranged (2 ^ 57) (now cells)) × (ZERO ≤ cell (now cells) p p) ⌝ }
+    ensures { λ _. ⌜ now (cells .exit) ≡ pivotOf p (now (cells .entry)) ⌝ }
 {
-    let mut out = m;
-    let mut p: usize = 0;
-    while p < size {
-        if out.cells[p * 21 + p] < ZERO {
-            return Closing {
-                ok: false,
-                zone: out,
-            };
+    let mut a: usize = 0;
+    while a < 21 {
+        pivot_row(cells, a, p);
+        a += 1;
+    }
+}
+
+// The pivots from .. to - 1 in turn, up to the first diagonal below zero: whether there was none. An entry within 2^52
+// ticks stays within 21 times that before the last pivot, so that no sum wraps.
+pub fn close(cells: &mut [u64], from: usize, to: usize) -> bool
+    requires { ⌜ (from ≤ to) × (to ≤ 21) × (Ranged (2 ^ 52) (now cells)) ⌝ }
+    ensures { λ r. ⌜ closeOf from to (now (cells .entry)) ≡ answer r (now (cells .exit)) ⌝ }
+{
+    let mut p = from;
+    while p < to {
+        if cells[p * 21 + p] < ZERO {
+            return false;
         }
-        out = pivot(out, p);
+        pivot(cells, p);
         p += 1;
     }
-    Closing {
-        ok: true,
-        zone: out,
-    }
+    true
 }

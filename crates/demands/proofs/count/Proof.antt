@@ -1,68 +1,82 @@
--- The invariant: so many demands are before the cursor.
+-- The invariant: the demands of the guards before a place are counted.
 use borrow.Author.Needs.{needs}
 use native.Mathlib.Omega.{arith}
+use mathlib.Core.Path.{_≡_}
+use Prim.Native.Nat.{_+_, _*_, _-_, _≤_}
 use lib.ListN.{length}
-use Rattle.constraints.specs.Cursor.{Ranged}
-use Rattle.constraints.specs.Rest.{rest}
-use Rattle.constraints.specs.Constraints.{ranged}
-use Rattle.demands.specs.Tally.{Tallied, tallied-first, tallied-few, tallied-done, tallied-fewer, tallied-next}
-use Rattle.demands.proofs.Bits.{guard-place}
+use Rattle.constraints.specs.Rest.{demandsOf}
+use Rattle.constraints.specs.Count.{demands-bounded}
+use Rattle.demands.specs.Tally.{Tallied, tallied-first, tallied-few, tallied-done, tallied-next}
 use Rattle.demands.proofs.count.Statement.{statement}
 use Rattle.demands.proofs.count.Tie as tie
 
 abbrev Inv-loop : tie.InvT-loop
-Inv-loop k t ends flags total c₀ n₀ c n = Tallied t k c n
+Inv-loop k t steps end n₀ place₀ n place = Tallied t n place
 
 abbrev μ-loop : tie.MeasureT-loop
-μ-loop k t ends flags total c₀ n₀ c n = length (rest t k c)
+μ-loop k t steps end n₀ place₀ n place = end - place
 
-cursor : (c : tie.At-loop Inv-loop μ-loop) → Ranged (c .loop .c)
-cursor c =
-    let ready = c .before .before .before .before .pre in
-    ranged _ _ (ready .sound .good) _ (c .loop .inv .at) (ready .few)
+-- one guard more is counted
+next : (c : tie.After-guard-number Inv-loop μ-loop)
+    → Tallied (c .before .before .before .before .before .before .args .t1)
+    (c .before .before .before .loop .n + c .guard-number .result) (c .before .before .before .loop .place + 1)
+next c =
+    let loop = c .before .before .before in
+    tallied-next (loop .before .before .before .pre) (loop .loop .inv) _ (omega arith) (c .guard-number .ensures)
 
-mul-total : tie.Need-mul-total Inv-loop μ-loop
-mul-total c = record { fits = omega (arith, c .before .before .pre .few) }
+-- all are, and they are few
+module _ (c : tie.After-loop Inv-loop μ-loop) where
+  abbrev start : tie.Start Inv-loop μ-loop
+  start = c .before .before .before .before
 
-first-requires : tie.Need-first-requires Inv-loop μ-loop
-first-requires c κs = search needs
+  number : start .args .k * c .before .loop .n + start .args .t1 .clocks
+      ≡ length (demandsOf (start .args .t1) (start .args .k))
+  number = tallied-done (start .pre) (c .before .loop .inv) (omega arith)
+
+  small : length (demandsOf (start .args .t1) (start .args .k)) ≤ 1024 * 129 + 6
+  small = demands-bounded _ _ (start .pre .sound .good) (start .pre .few)
+
+mul-end : tie.Need-mul-end Inv-loop μ-loop
+mul-end c = search needs
+
+element-copy-out-end : tie.Need-element-copy-out-end Inv-loop μ-loop
+element-copy-out-end c = search needs
+
+element-copy-out-place : tie.Need-element-copy-out-place Inv-loop μ-loop
+element-copy-out-place c = search needs
 
 loop-holds : tie.Need-loop-holds Inv-loop μ-loop
-loop-holds c = tallied-first (c .before .before .before .pre) (c .first .ensures)
+loop-holds c = tallied-first (c .before .before .pre)
 
 mul-guard : tie.Need-mul-guard Inv-loop μ-loop
-mul-guard c = record { fits = guard-place _ (cursor (c .before .before) .guard) }
+mul-guard c = search needs
 
 element-copy-out-guard : tie.Need-element-copy-out-guard Inv-loop μ-loop
-element-copy-out-guard c = cursor (c .before .before) .guard
+element-copy-out-guard c = search needs
 
-next-requires : tie.Need-next-requires Inv-loop μ-loop
-next-requires c κs =
-    let loop = c .before .before .before .before .before in
-    let good = loop .before .before .before .before .pre .sound .good in
-    (good .ends-size, good .resets-size, cursor loop)
+guard-number-requires : tie.Need-guard-number-requires Inv-loop μ-loop
+guard-number-requires c κs = search needs
 
 add-n : tie.Need-add-n Inv-loop μ-loop
-add-n c =
-    let loop = c .before .before .before .before .before .before in
-    record { fits = omega (arith, tallied-few (loop .before .before .before .before .pre) (loop .loop .inv)) }
+add-n c = record { fits = omega (arith, tallied-few (c .before .before .before .before .before .before .pre) (next c)) }
+
+add-place : tie.Need-add-place Inv-loop μ-loop
+add-place c = search needs
 
 loop-less : tie.Need-loop-less Inv-loop μ-loop
-loop-less c =
-    let test = c .before .before .before .before in
-    let loop = test .before .before in
-    tallied-fewer (loop .before .before .before .before .pre) (loop .loop .inv) _ (test .if1 .taken) (c .next .ensures)
+loop-less c = search needs
 
 loop-again : tie.Need-loop-again Inv-loop μ-loop
-loop-again c =
-    let test = c .before .before .before .before in
-    let loop = test .before .before in
-    tallied-next (loop .before .before .before .before .pre) (loop .loop .inv) _ (test .if1 .taken) (c .next .ensures)
+loop-again c = next c
+
+mul-result : tie.Need-mul-result Inv-loop μ-loop
+mul-result c = record { fits = omega (arith, number c, small c) }
+
+add-result : tie.Need-add-result Inv-loop μ-loop
+add-result c = record { fits = omega (arith, number c, small c) }
 
 returns : tie.Need-returns Inv-loop μ-loop
-returns c =
-    let loop = c .before .before in
-    tallied-done (loop .before .before .before .before .pre) (loop .loop .inv) (c .if1 .left)
+returns c = number c
 
 pub count-spec : {M : Type 1} → statement M
 count-spec =
@@ -70,13 +84,17 @@ count-spec =
     (tie.spec
     Inv-loop
     μ-loop
-    mul-total
-    first-requires
+    mul-end
+    element-copy-out-end
+    element-copy-out-place
     loop-holds
     mul-guard
     element-copy-out-guard
-    next-requires
+    guard-number-requires
     add-n
+    add-place
     loop-less
     loop-again
+    mul-result
+    add-result
     returns)

@@ -1,8 +1,8 @@
 -- None of the four numbers wraps, and the stores go one after the other.
 use borrow.Author.Needs.{needs}
-use mathlib.Core.Path.{_≡_}
+use mathlib.Core.Path.{_≡_, refl}
 use mathlib.Core.Bool.{Bool, true, false}
-use mathlib.Core.List.{List}
+use mathlib.Core.List.{List, List·Memᴰ·head}
 use Prim.Native.Nat.{ℕ, suc, _+_}
 use native.Mathlib.Omega.{arith}
 use lib.IntN.{ℤ, pos}
@@ -11,7 +11,8 @@ use lib.Seq.{sets}
 use mir.Syntax.{w64}
 use mir.Val.{SFits}
 use Rattle.runs.specs.declared.Demand.{Demand}
-use Rattle.demands.specs.Lines.{boundOf, strictOf, cellsOf}
+use Rattle.demands.specs.Lines.{boundOf, strictOf, cellsOf, Small}
+use Rattle.demands.specs.Writing.{wrote-one}
 use Rattle.demands.proofs.Bits.{small-fits, read-back, fits}
 use Rattle.demands.proofs.put.Statement.{statement}
 use Rattle.demands.proofs.put.Tie as tie
@@ -30,14 +31,18 @@ flag-fits : (b : Bool) → SFits w64 (pos (strictOf b))
 flag-fits true = small-fits 1 (omega arith)
 flag-fits false = small-fits 0 (omega arith)
 
+-- the demand is small
+small : (c : tie.Start) → Small (c .args .d)
+small c = c .pre .small (c .args .d) (List·Memᴰ·head refl)
+
 signed-requires : tie.Need-signed-requires
-signed-requires c κs = search needs
+signed-requires c κs = omega (arith, small c)
 
 signed-requires-2 : tie.Need-signed-requires-2
-signed-requires-2 c κs = search needs
+signed-requires-2 c κs = omega (arith, small (c .before))
 
 bound-of-requires : tie.Need-bound-of-requires
-bound-of-requires c κs = search needs
+bound-of-requires c κs = small (c .before .before)
 
 strict-of-requires : tie.Need-strict-of-requires
 strict-of-requires c κs = search needs
@@ -75,18 +80,21 @@ mul-strict c = search needs
 slice-set-from-strict : tie.Need-slice-set-from-strict
 slice-set-from-strict c = simp length-set (omega arith)
 
+add-result : tie.Need-add-result
+add-result c = search needs
+
 same-length : tie.Need-same-length
 same-length c = search needs
 
 returns : tie.Need-returns
 returns c =
     let d = c .before .before .before .before .args .d in
-    let h = c .before .before .before .before .pre .1 in
-    stored (c .before .before .before .before .args .row .now) (c .before .before .before .before .args .q) d
+    let h = small (c .before .before .before .before) in
+    wrote-one (stored (c .before .before .before .before .args .row .now) (c .before .before .before .before .args .q) d
     (read-back _ _ (c .before .before .before .signed .ensures) (small-fits (d .from) (omega arith)))
     (read-back _ _ (c .before .before .signed2 .ensures) (small-fits (d .to) (omega arith)))
     (read-back _ _ (c .before .bound-of .ensures) (fits (d .up) (d .down) (h .up) (h .down)))
-    (read-back _ _ (c .strict-of .ensures) (flag-fits (d .strict)))
+    (read-back _ _ (c .strict-of .ensures) (flag-fits (d .strict)))) refl
 
 pub put-spec : {M : Type 1} → statement M
 put-spec =
@@ -107,5 +115,6 @@ put-spec =
     add-strict
     mul-strict
     slice-set-from-strict
+    add-result
     same-length
     returns)

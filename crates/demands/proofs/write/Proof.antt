@@ -1,96 +1,185 @@
--- The invariant: the demands before the cursor stand in the row's first places, and those that are left, written after
--- them, make it the row at exit.
+-- The invariant: what is left, of the step that is under way, of those after it and of the starts, makes the row at exit.
 use borrow.Author.Needs.{needs}
-use mathlib.Core.Path.{refl}
 use native.Mathlib.Omega.{arith}
-use lib.ListN.{length}
-use Rattle.constraints.specs.Cursor.{Ranged}
-use Rattle.constraints.specs.Rest.{rest}
-use Rattle.constraints.specs.Constraints.{ranged, clocked}
-use Rattle.demands.specs.Passed.{Passed, passed-first, passed-done, passed-next}
-use Rattle.demands.specs.Passed.{due-room, due-few, due-fewer, due-small}
-use Rattle.demands.proofs.Bits.{guard-place}
+use mathlib.Core.Path.{refl, ap}
+use mathlib.Core.Bool.{cond}
+use Prim.Native.Nat.{ℕ, _+_, _*_, _-_, _<_}
+use Rattle.demands.specs.Passed.{Inside, Going, outside, inside, as-outside, as-inside, as-done, going-inside}
+use Rattle.demands.specs.Ends.{passed-first, starts-fit, passed-long, passed-done}
+use Rattle.demands.specs.Steps.{order-fits, passed-order, inside-step, inside-moment, inside-guard, guard-clock}
+use Rattle.demands.specs.Steps.{guard-fits, passed-guard, passed-step}
 use Rattle.demands.proofs.write.Statement.{statement}
 use Rattle.demands.proofs.write.Tie as tie
 
 abbrev Inv-loop : tie.InvT-loop
-Inv-loop k row₀ t ends flags total c₀ q₀ row c q = Passed t k row₀ c q row
+Inv-loop k row₀ t flags total resets₀ q₀ past₀ s₀ g₀ order₀ row resets q past s g order =
+    Going t k row₀ row q past s g resets order
 
 abbrev μ-loop : tie.MeasureT-loop
-μ-loop k row₀ t ends flags total c₀ q₀ row c q = length (rest t k c)
-
-cursor : (c : tie.At-loop Inv-loop μ-loop) → Ranged (c .loop .c)
-cursor c =
-    let ready = c .before .before .before .before .pre .0 in
-    ranged _ _ (ready .sound .good) _ (c .loop .inv .at) (ready .few)
+μ-loop k row₀ t flags total resets₀ q₀ past₀ s₀ g₀ order₀ row resets q past s g order =
+    (total - past) * 130 + cond order 65 0 + (64 - g)
 
 mul-total : tie.Need-mul-total Inv-loop μ-loop
-mul-total c = record { fits = omega (arith, c .before .before .pre .0 .few) }
+mul-total c = search needs
 
 first-requires : tie.Need-first-requires Inv-loop μ-loop
 first-requires c κs = search needs
 
+element-copy-out-g : tie.Need-element-copy-out-g Inv-loop μ-loop
+element-copy-out-g c = search needs
+
 loop-holds : tie.Need-loop-holds Inv-loop μ-loop
-loop-holds c = let pre = c .before .before .before .pre in passed-first (pre .0) _ (pre .1) (c .first .ensures)
+loop-holds c =
+    let start = c .before .before .before .before in
+    outside (passed-first (start .pre .0) _ (start .pre .1) (c .before .before .first .ensures)) refl
 
-mul-guard : tie.Need-mul-guard Inv-loop μ-loop
-mul-guard c = record { fits = guard-place _ (cursor (c .before .before) .guard) }
-
-element-copy-out-guard : tie.Need-element-copy-out-guard Inv-loop μ-loop
-element-copy-out-guard c = cursor (c .before .before) .guard
-
-current-requires : tie.Need-current-requires Inv-loop μ-loop
-current-requires c κs =
+put-order-requires : tie.Need-put-order-requires Inv-loop μ-loop
+put-order-requires c κs =
     let loop = c .before .before .before in
-    let ready = loop .before .before .before .before .pre .0 in
-    (ready .few, clocked _ _ (ready .sound .good) _ (loop .loop .inv .at) _, cursor loop)
-
-put-requires : tie.Need-put-requires Inv-loop μ-loop
-put-requires c κs =
-    let test = c .before .before .before in
-    let loop = test .before .before in
-    let ready = loop .before .before .before .before .pre .0 in (
-      due-room ready (loop .loop .inv) _ (test .if1 .taken) (c .before .current .ensures) refl,
-      due-small ready (loop .loop .inv) _ (test .if1 .taken) (c .before .current .ensures) refl,
+    let start = loop .before .before .before .before .before in (
+      omega (arith, start .pre .0 .few),
+      order-fits (start .pre .0) (as-outside (loop .loop .inv) (c .before .if1 .taken) .0) (omega arith),
     )
 
-next-requires : tie.Need-next-requires Inv-loop μ-loop
-next-requires c κs =
-    let loop = c .before .before .before .before .before .before .before .before .before in
-    let good = loop .before .before .before .before .pre .0 .sound .good in
-    (good .ends-size, good .resets-size, cursor loop)
-
-add-q : tie.Need-add-q Inv-loop μ-loop
-add-q c =
-    let due = c .before .before .before .before .before .before in
-    let loop = due .before .before .before .before in
-    let ready = loop .before .before .before .before .pre .0 in
-    let test = due .before .before in
-    let few = due-few ready (loop .loop .inv) _ (test .if1 .taken) (due .current .ensures) (c .next .ensures) in
-    record { fits = omega arith }
-
 loop-less : tie.Need-loop-less Inv-loop μ-loop
-loop-less c =
-    let due = c .before .before .before .before .before .before in
-    let loop = due .before .before .before .before in
-    let ready = loop .before .before .before .before .pre .0 in
-    due-fewer ready (loop .loop .inv) _ (due .before .before .if1 .taken) (due .current .ensures) (c .next .ensures)
+loop-less c = omega (arith, ap {B = ℕ} (λ b. cond b 65 0) (c .before .before .before .if1 .taken))
 
 loop-again : tie.Need-loop-again Inv-loop μ-loop
 loop-again c =
-    let due = c .before .before .before .before .before .before in
-    let loop = due .before .before .before .before in
-    let ready = loop .before .before .before .before .pre .0 in
-    passed-next ready (loop .loop .inv) _ (due .before .before .if1 .taken) (due .current .ensures) (c .next .ensures)
-    (c .before .before .before .before .put .ensures)
+    let test = c .before .before .before in
+    let loop = test .before .before in
+    let start = loop .before .before .before .before .before in
+    let out = as-outside (loop .loop .inv) (test .if1 .taken) in
+    inside (passed-order (start .pre .0) (out .0) (omega arith) (out .1) (c .before .put-order .ensures))
+
+-- inside a step
+module _ (c : tie.Else1 Inv-loop μ-loop) where
+  abbrev start : tie.Start Inv-loop μ-loop
+  start = c .before .before .before .before .before .before .before
+
+  within : Inside (start .args .t1) (start .args .k) (start .args .row .now) (c .before .before .loop .row)
+      (c .before .before .loop .q) (c .before .before .loop .past) (c .before .before .loop .s)
+      (c .before .before .loop .g) (c .before .before .loop .resets)
+  within = as-inside (c .before .before .loop .inv) (c .if1 .left)
+
+add-if2 : tie.Need-add-if2 Inv-loop μ-loop
+add-if2 c = record { fits = omega (arith, inside-step (start c .pre .0) (within c)) }
+
+mul-if2 : tie.Need-mul-if2 Inv-loop μ-loop
+mul-if2 c = record { fits = omega (arith, inside-step (start c .pre .0) (within c)) }
+
+element-copy-out-if2 : tie.Need-element-copy-out-if2 Inv-loop μ-loop
+element-copy-out-if2 c = omega (arith, inside-step (start c .pre .0) (within c))
+
+mul-guard : tie.Need-mul-guard Inv-loop μ-loop
+mul-guard c =
+    let e = c .before .before in
+    record { fits = omega (arith, inside-guard (start e .pre .0) (within e) (c .if2 .taken)) }
+
+element-copy-out-guard : tie.Need-element-copy-out-guard Inv-loop μ-loop
+element-copy-out-guard c =
+    let e = c .before .before in
+    inside-guard (start e .pre .0) (within e) (c .if2 .taken)
+
+array-read-put-guard : tie.Need-array-read-put-guard Inv-loop μ-loop
+array-read-put-guard c =
+    let e = c .before .before .before .before in
+    guard-clock (start e .pre .0) (within e) _ (c .before .before .if2 .taken)
+
+mul-put-guard : tie.Need-mul-put-guard Inv-loop μ-loop
+mul-put-guard c = record { fits = omega (arith, array-read-put-guard c) }
+
+add-put-guard : tie.Need-add-put-guard Inv-loop μ-loop
+add-put-guard c =
+    let e = c .before .before .before .before in
+    record { fits = omega (arith, inside-moment (start e .pre .0) (within e)) }
+
+put-guard-requires : tie.Need-put-guard-requires Inv-loop μ-loop
+put-guard-requires c κs =
+    let e = c .before .before .before .before in
+    guard-fits (start e .pre .0) (within e) _ (c .before .before .if2 .taken)
+
+add-g : tie.Need-add-g Inv-loop μ-loop
+add-g c =
+    let e = c .before .before .before .before .before .before in
+    record { fits = omega (arith, inside-guard (start e .pre .0) (within e) (c .before .before .before .before .if2 .taken)) }
+
+loop-less-2 : tie.Need-loop-less-2 Inv-loop μ-loop
+loop-less-2 c =
+    let e = c .before .before .before .before .before .before in
+    omega (arith, inside-guard (start e .pre .0) (within e) (c .before .before .before .before .if2 .taken))
+
+loop-again-2 : tie.Need-loop-again-2 Inv-loop μ-loop
+loop-again-2 c =
+    let e = c .before .before .before .before .before .before in
+    going-inside (e .if1 .left)
+    (passed-guard (start e .pre .0) (within e) _ (c .before .before .before .before .if2 .taken)
+    (c .before .put-guard .ensures))
+
+add-reset-at : tie.Need-add-reset-at Inv-loop μ-loop
+add-reset-at c =
+    let e = c .before .before .before in
+    record { fits = omega (arith, inside-moment (start e .pre .0) (within e)) }
+
+reset-at-requires : tie.Need-reset-at-requires Inv-loop μ-loop
+reset-at-requires c κs =
+    let e = c .before .before .before in
+    (start e .pre .0 .sound .good .resets-size, omega (arith, inside-step (start e .pre .0) (within e)))
+
+following-requires : tie.Need-following-requires Inv-loop μ-loop
+following-requires c κs =
+    let e = c .before .before .before .before in
+    inside-step (start e .pre .0) (within e)
+
+-- the step is past
+after : (c : tie.After-following Inv-loop μ-loop) → c .following .result < 16
+after c =
+    let e = c .before .before .before .before .before in
+    let p = passed-step (start e .pre .0) (within e) (c .before .before .before .if2 .left) (c .before .reset-at .ensures)
+    (c .following .ensures) in
+    omega (arith, p .step, start e .pre .0 .sound .good .steps-few)
+
+mul-g : tie.Need-mul-g Inv-loop μ-loop
+mul-g c = record { fits = omega (arith, after c) }
+
+element-copy-out-g-2 : tie.Need-element-copy-out-g-2 Inv-loop μ-loop
+element-copy-out-g-2 c = omega (arith, after c)
+
+add-past : tie.Need-add-past Inv-loop μ-loop
+add-past c =
+    let e = c .before .before .before .before .before .before in
+    record { fits = omega (arith, inside-moment (start e .pre .0) (within e)) }
+
+loop-less-3 : tie.Need-loop-less-3 Inv-loop μ-loop
+loop-less-3 c = omega arith
+
+loop-again-3 : tie.Need-loop-again-3 Inv-loop μ-loop
+loop-again-3 c =
+    let e = c .before .before .before .before .before .before in
+    outside
+    (passed-step (start e .pre .0) (within e) (c .before .before .before .before .if2 .left)
+    (c .before .before .reset-at .ensures) (c .before .following .ensures))
+    refl
+
+put-starts-requires : tie.Need-put-starts-requires Inv-loop μ-loop
+put-starts-requires c κs =
+    let loop = c .before .before in
+    let start = loop .before .before .before .before .before in
+    let p = as-done (loop .loop .inv) (omega arith) in
+    (start .pre .0 .sound .good .clocks-few, start .pre .0 .few, starts-fit (start .pre .0) p (omega arith))
 
 same-length : tie.Need-same-length Inv-loop μ-loop
-same-length c = c .before .before .loop .inv .long
+same-length c =
+    let loop = c .before .before .before .before in
+    let start = loop .before .before .before .before .before in
+    passed-long (start .pre .0) (as-done (loop .loop .inv) (omega arith)) (omega arith) (c .before .put-starts .ensures)
 
 returns : tie.Need-returns Inv-loop μ-loop
 returns c =
-    let loop = c .before .before in
-    passed-done (loop .before .before .before .before .pre .0) (loop .loop .inv) (c .if1 .left)
+    let loop = c .before .before .before .before in
+    let start = loop .before .before .before .before .before in
+    passed-done (start .pre .0) (as-done (loop .loop .inv) (omega arith)) (omega arith) (start .pre .1)
+    (c .before .put-starts .ensures)
 
 pub write-spec : {M : Type 1} → statement M
 write-spec =
@@ -100,14 +189,31 @@ write-spec =
     μ-loop
     mul-total
     first-requires
+    element-copy-out-g
     loop-holds
-    mul-guard
-    element-copy-out-guard
-    current-requires
-    put-requires
-    next-requires
-    add-q
+    put-order-requires
     loop-less
     loop-again
+    add-if2
+    mul-if2
+    element-copy-out-if2
+    mul-guard
+    element-copy-out-guard
+    mul-put-guard
+    array-read-put-guard
+    add-put-guard
+    put-guard-requires
+    add-g
+    loop-less-2
+    loop-again-2
+    add-reset-at
+    reset-at-requires
+    following-requires
+    mul-g
+    element-copy-out-g-2
+    add-past
+    loop-less-3
+    loop-again-3
+    put-starts-requires
     same-length
     returns)

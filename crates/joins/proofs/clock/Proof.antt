@@ -22,12 +22,17 @@ add-tighten-2 c = search needs
 tighten-requires-3 : tie.Need-tighten-requires-3
 tighten-requires-3 c κs = search needs
 
+same-length : tie.Need-same-length
+same-length c = search needs
+
 returns : tie.Need-returns
 returns c =
-    let s = c .before .before .before .before in
-    clock-put (s .args .reset) (s .args .j) (c .before .before .before .last .result) (s .args .m .cells) _ _ _
-    (c .before .before .before .last .ensures .0) (c .before .before .tighten .ensures) (c .before .tighten2 .ensures)
-    (c .tighten3 .ensures)
+    let d = c .before .before in
+    let e = d .before .before .before .before in
+    let f = e .before .before .before .before in
+    let g = f .before .before in
+    clock-put (g .before .before .args .reset) (g .before .before .args .j) _ _ _ _ _ (g .last .ensures .0)
+    (f .tighten .ensures) (e .tighten2 .ensures) (d .tighten3 .ensures)
 
 pub clock-spec : {M : Type 1} → statement M
 clock-spec =
@@ -39,4 +44,5 @@ clock-spec =
     tighten-requires-2
     add-tighten-2
     tighten-requires-3
+    same-length
     returns)

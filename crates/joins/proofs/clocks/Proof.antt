@@ -1,6 +1,7 @@
 -- `joins::clocks` meets its contract. What is left to put in, put into what is there, is what was to be put in.
 use mathlib.Core.Path.{_≡_, refl, _∙_}
 use Prim.Native.Nat.{_≤_}
+use lib.ListN.{length}
 use Rattle.table.specs.Step.{stepAt}
 use Rattle.effects.specs.Demands.{each}
 use Rattle.effects.specs.StepDemands.{clockDemands}
@@ -12,22 +13,27 @@ use Rattle.joins.proofs.clocks.Statement.{statement}
 use Rattle.joins.proofs.clocks.Tie as tie
 
 abbrev Inv-loop : tie.InvT-loop
-Inv-loop i t out₀ j₀ out j =
-    (j ≤ 6)
-    × (putsOf (each j (clockDemands (stepAt t i))) (out .cells)
-    ≡ putsOf (each 6 (clockDemands (stepAt t i))) (out₀ .cells))
+Inv-loop i t cells₀ j₀ cells j =
+    (j ≤ 6) × (length cells ≡ 441)
+    × (putsOf (each j (clockDemands (stepAt t i))) cells ≡ putsOf (each 6 (clockDemands (stepAt t i))) cells₀)
 
 abbrev μ-loop : tie.MeasureT-loop
-μ-loop i t out₀ j₀ out j = j
+μ-loop i t cells₀ j₀ cells j = j
 
 unbounded-requires : tie.Need-unbounded-requires Inv-loop μ-loop
 unbounded-requires c κs = search needs
+
+slice-aggregate-tighten : tie.Need-slice-aggregate-tighten Inv-loop μ-loop
+slice-aggregate-tighten c = search needs
 
 tighten-requires : tie.Need-tighten-requires Inv-loop μ-loop
 tighten-requires c κs = search needs
 
 loop-holds : tie.Need-loop-holds Inv-loop μ-loop
-loop-holds c = (search needs, refl)
+loop-holds c = (search needs, search needs, refl)
+
+slice-aggregate-clock : tie.Need-slice-aggregate-clock Inv-loop μ-loop
+slice-aggregate-clock c = search needs
 
 mul-clock : tie.Need-mul-clock Inv-loop μ-loop
 mul-clock c = search needs
@@ -49,19 +55,20 @@ loop-less c = search needs
 
 loop-again : tie.Need-loop-again Inv-loop μ-loop
 loop-again c =
-    let h = c .before .before .before in
-    let s = h .before .before .before in (
+    let h = c .before .before .before .before .before in
+    let s = h .before .before .before .before .before .before in (
       search needs,
-      clocks-less (s .args .t1) (s .args .i) (h .loop .j) (h .loop .out .cells) _ (search needs)
-          (search needs) (c .clock .ensures) ∙ h .loop .inv .1,
+      search needs,
+      clocks-less (s .args .t1) (s .args .i) (h .loop .j) (h .loop .cells) _ (search needs)
+          (search needs) (c .before .clock .ensures) ∙ h .loop .inv .2,
     )
 
 returns : tie.Need-returns Inv-loop μ-loop
 returns c =
     let h = c .before in
-    let s = h .before .before .before in
-    clocks-done (clockDemands (stepAt (s .args .t1) (s .args .i))) (h .loop .j) (h .loop .out .cells) _ _
-    (omega arith) (h .loop .inv .1) (h .before .before .unbounded .ensures) (h .before .tighten .ensures)
+    let u = h .before .before .before .before .before in
+    clocks-done (clockDemands (stepAt (u .before .args .t1) (u .before .args .i))) (h .loop .j) (h .loop .cells) _ _
+    (omega arith) (h .loop .inv .2) (u .unbounded .ensures) (h .before .before .tighten .ensures)
 
 pub clocks-spec : {M : Type 1} → statement M
 clocks-spec =
@@ -70,8 +77,10 @@ clocks-spec =
     Inv-loop
     μ-loop
     unbounded-requires
+    slice-aggregate-tighten
     tighten-requires
     loop-holds
+    slice-aggregate-clock
     mul-clock
     add-clock
     element-copy-out-clock

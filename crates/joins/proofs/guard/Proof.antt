@@ -58,36 +58,61 @@ sub-tighten-3 c = search needs
 tighten-requires-6 : tie.Need-tighten-requires-6
 tighten-requires-6 c κs = search needs
 
+same-length : tie.Need-same-length
+same-length c = search needs
+
 returns : tie.Need-returns
 returns c =
-    let s = c .before .before .before .before in
-    rw (c .before .enum-told .given .1)
-    (under-put (s .args .g .clock) (s .args .g .constant) (s .args .m .cells) _ (c .tighten .ensures))
+    let d = c .before .before in
+    let e = d .before .before in
+    let s = e .before .before .before .before in
+    rw (e .enum-told .given .1)
+    (under-put (s .args .g .clock) (s .args .g .constant) _ _ (d .tighten .ensures))
+
+same-length-2 : tie.Need-same-length-2
+same-length-2 c = search needs
 
 returns-2 : tie.Need-returns-2
 returns-2 c =
-    let s = c .before .before .before .before in
-    rw (c .before .enum-told2 .given .1)
-    (most-put (s .args .g .clock) (s .args .g .constant) (s .args .m .cells) _ (c .tighten2 .ensures))
+    let d = c .before .before in
+    let e = d .before .before in
+    let s = e .before .before .before .before in
+    rw (e .enum-told2 .given .1)
+    (most-put (s .args .g .clock) (s .args .g .constant) _ _ (d .tighten2 .ensures))
+
+same-length-3 : tie.Need-same-length-3
+same-length-3 c = search needs
 
 returns-3 : tie.Need-returns-3
 returns-3 c =
-    let s = c .before .before .before .before .before in
-    rw (c .before .before .enum-told3 .given .1)
-    (exactly-put (s .args .g .clock) (s .args .g .constant) (s .args .m .cells) _ _ (c .before .tighten3 .ensures)
-    (c .tighten4 .ensures))
+    let d = c .before .before in
+    let f = d .before .before .before .before in
+    let e = f .before .before in
+    let s = e .before .before .before .before in
+    rw (e .enum-told3 .given .1)
+    (exactly-put (s .args .g .clock) (s .args .g .constant) _ _ _ (f .tighten3 .ensures) (d .tighten4 .ensures))
+
+same-length-4 : tie.Need-same-length-4
+same-length-4 c = search needs
 
 returns-4 : tie.Need-returns-4
 returns-4 c =
-    let s = c .before .before .before .before in
-    rw (c .before .enum-told4 .given .1)
-    (least-put (s .args .g .clock) (s .args .g .constant) (s .args .m .cells) _ (c .tighten5 .ensures))
+    let d = c .before .before in
+    let e = d .before .before in
+    let s = e .before .before .before .before in
+    rw (e .enum-told4 .given .1)
+    (least-put (s .args .g .clock) (s .args .g .constant) _ _ (d .tighten5 .ensures))
+
+same-length-5 : tie.Need-same-length-5
+same-length-5 c = search needs
 
 returns-5 : tie.Need-returns-5
 returns-5 c =
-    let s = c .before .before .before .before in
-    rw (c .before .enum-told5 .given .1)
-    (over-put (s .args .g .clock) (s .args .g .constant) (s .args .m .cells) _ (c .tighten6 .ensures))
+    let d = c .before .before in
+    let e = d .before .before in
+    let s = e .before .before .before .before in
+    rw (e .enum-told5 .given .1)
+    (over-put (s .args .g .clock) (s .args .g .constant) _ _ (d .tighten6 .ensures))
 
 pub guard-spec : {M : Type 1} → statement M
 guard-spec =
@@ -111,8 +136,13 @@ guard-spec =
     enum-told-5
     sub-tighten-3
     tighten-requires-6
+    same-length
     returns
+    same-length-2
     returns-2
+    same-length-3
     returns-3
+    same-length-4
     returns-4
+    same-length-5
     returns-5)

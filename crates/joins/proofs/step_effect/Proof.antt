@@ -19,17 +19,26 @@ clocks-requires c κs = search needs
 guards-requires : tie.Need-guards-requires
 guards-requires c κs = search needs
 
+slice-aggregate-close : tie.Need-slice-aggregate-close
+slice-aggregate-close c = search needs
+
 close-requires : tie.Need-close-requires
 close-requires c κs =
-    let s = c .before .before in (
+    let g = c .before .before in
+    let s = g .before .before in (
+      search needs,
       search needs,
       raw-closable (stepAt (s .args .t) (s .args .i))
-          (step-fair (s .args .t) (s .pre .0) (s .args .i) (s .pre .1)) _ (raw c),
+          (step-fair (s .args .t) (s .pre .0) (s .args .i) (s .pre .1)) _ (raw g),
     )
 
 returns : tie.Need-returns
 unfolding effectOf
-returns c = ap (closeOf 14) (sym (raw (c .before))) ∙ c .close .ensures
+returns c =
+    let d = c .before in
+    ap (closeOf 0 14) (sym (raw (d .before .before .before))) ∙ d .close .ensures
 
 pub step-effect-spec : {M : Type 1} → statement M
-step-effect-spec = tie.close (tie.spec clocks-requires guards-requires close-requires returns)
+step-effect-spec =
+    tie.close
+    (tie.spec clocks-requires guards-requires slice-aggregate-close close-requires returns)

@@ -1,90 +1,50 @@
--- `zones::pivot` meets its contract. The cells passed are those of `viaOf`; the measure is what is left.
+-- `zones::pivot` meets its contract. The rows passed are pivoted; the measure is what is left.
 use mathlib.Core.Path.{_≡_}
-use Prim.Native.Nat.{ℕ, _≤_, _<_, _-_}
-use native.Mathlib.Omega.{arith}
+use Prim.Native.Nat.{_-_, _≤_}
+use Rattle.zones.specs.Rows.{RowsTo, rows-none, rows-ready, rows-more, rows-all}
 use borrow.Author.Needs.{needs}
-use lib.ListN.{length, getD, length-set}
-use Rattle.zones.specs.Tab.{is-tab, tab-more}
-use Rattle.zones.specs.Cells.{viaOf, pivotOf}
+use native.Mathlib.Omega.{arith}
 use Rattle.zones.proofs.pivot.Statement.{statement}
 use Rattle.zones.proofs.pivot.Tie as tie
 
 abbrev Inv-loop : tie.InvT-loop
-Inv-loop p m out₀ k₀ out k =
-    (k ≤ 441) × (length out ≡ 441) × ((i : ℕ) → i < k → getD out i 0 ≡ viaOf p (m .cells) i)
+Inv-loop cells₀ p a₀ cells a = (a ≤ 21) × RowsTo p a cells₀ cells
 
 abbrev μ-loop : tie.MeasureT-loop
-μ-loop p m out₀ k₀ out k = 441 - k
+μ-loop cells₀ p a₀ cells a = 21 - a
 
 loop-holds : tie.Need-loop-holds Inv-loop μ-loop
-loop-holds c = search needs
+loop-holds c = (search needs, rows-none _ _ (c .before .pre .1 .full))
 
-mul-old : tie.Need-mul-old Inv-loop μ-loop
-mul-old c = search needs
+pivot-row-requires : tie.Need-pivot-row-requires Inv-loop μ-loop
+pivot-row-requires c κs =
+    let h = c .before .before in
+    let s = h .before .before in
+    rows-ready _ _ (s .pre .0) (s .pre .1) (s .pre .2) _ _ (h .loop .inv .1) (omega arith)
 
-element-copy-out-old : tie.Need-element-copy-out-old Inv-loop μ-loop
-element-copy-out-old c = search needs
-
-mul-first : tie.Need-mul-first Inv-loop μ-loop
-mul-first c = search needs
-
-add-first : tie.Need-add-first Inv-loop μ-loop
-add-first c = search needs
-
-mul-first-2 : tie.Need-mul-first-2 Inv-loop μ-loop
-mul-first-2 c = search needs
-
-element-copy-out-first : tie.Need-element-copy-out-first Inv-loop μ-loop
-element-copy-out-first c = search needs
-
-mul-second : tie.Need-mul-second Inv-loop μ-loop
-mul-second c = search needs
-
-add-second : tie.Need-add-second Inv-loop μ-loop
-add-second c = search needs
-
-mul-second-2 : tie.Need-mul-second-2 Inv-loop μ-loop
-mul-second-2 c = search needs
-
-element-copy-out-second : tie.Need-element-copy-out-second Inv-loop μ-loop
-element-copy-out-second c = search needs
-
-sum-requires : tie.Need-sum-requires Inv-loop μ-loop
-sum-requires c κs =
-    let s = c .before .before .before .before .before in
-    (s .pre .1 .coded _ (omega arith), s .pre .1 .coded _ (omega arith))
-
-tighter-requires : tie.Need-tighter-requires Inv-loop μ-loop
-tighter-requires c κs = search needs
-
-mul-out : tie.Need-mul-out Inv-loop μ-loop
-mul-out c = search needs
-
-array-write-out : tie.Need-array-write-out Inv-loop μ-loop
-array-write-out c = search needs
-
-add-k : tie.Need-add-k Inv-loop μ-loop
-add-k c = search needs
+add-a : tie.Need-add-a Inv-loop μ-loop
+add-a c = search needs
 
 loop-less : tie.Need-loop-less Inv-loop μ-loop
 loop-less c = search needs
 
 loop-again : tie.Need-loop-again Inv-loop μ-loop
 loop-again c =
-    let h = c .before .before .before .before .before .before in
-    let s = h .before in (
+    let h = c .before .before .before .before .before in
+    let s = h .before .before in (
       search needs,
-      simp length-set (h .loop .inv .1),
-      tab-more (viaOf (s .args .p) (s .args .t1 .cells)) (h .loop .out) (h .loop .k) (c .tighter .result)
-          (omega arith) (cc) (h .loop .inv .2),
+      rows-more _ _ (s .pre .0) (s .pre .1) (s .pre .2) _ _ (h .loop .inv .1) _
+          (c .before .before .pivot-row .ensures),
     )
 
+same-length : tie.Need-same-length Inv-loop μ-loop
+same-length c = search needs
+
 returns : tie.Need-returns Inv-loop μ-loop
-unfolding pivotOf
 returns c =
     let h = c .before in
-    is-tab 441 (viaOf (h .before .args .p) (h .before .args .t1 .cells)) (h .loop .out) (h .loop .inv .1)
-    (λ i b. h .loop .inv .2 i (omega arith))
+    let e : h .loop .a ≡ 21 = omega arith in
+    rows-all _ _ _ (rw e at (h .loop .inv .1))
 
 pub pivot-spec : {M : Type 1} → statement M
 pivot-spec =
@@ -93,21 +53,9 @@ pivot-spec =
     Inv-loop
     μ-loop
     loop-holds
-    mul-old
-    element-copy-out-old
-    mul-first
-    add-first
-    mul-first-2
-    element-copy-out-first
-    mul-second
-    add-second
-    mul-second-2
-    element-copy-out-second
-    sum-requires
-    tighter-requires
-    mul-out
-    array-write-out
-    add-k
+    pivot-row-requires
+    add-a
     loop-less
     loop-again
+    same-length
     returns)

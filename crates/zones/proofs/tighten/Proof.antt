@@ -1,8 +1,6 @@
 -- `zones::tighten` meets its contract: one cell is stored, the smaller of the two codes.
-use mathlib.Core.Path.{ap}
+use Rattle.zones.specs.Building.{tighten-is}
 use borrow.Author.Needs.{needs}
-use lib.ListN.{set}
-use Rattle.zones.specs.Cells.{tightenOf}
 use Rattle.zones.proofs.tighten.Statement.{statement}
 use Rattle.zones.proofs.tighten.Tie as tie
 
@@ -15,21 +13,23 @@ add-at c = search needs
 mul-old : tie.Need-mul-old
 mul-old c = search needs
 
-element-copy-out-old : tie.Need-element-copy-out-old
-element-copy-out-old c = search needs
+slice-read-old : tie.Need-slice-read-old
+slice-read-old c = search needs
 
 tighter-requires : tie.Need-tighter-requires
 tighter-requires c κs = search needs
 
-mul-out : tie.Need-mul-out
-mul-out c = search needs
+mul-cells : tie.Need-mul-cells
+mul-cells c = search needs
 
-element-write-out : tie.Need-element-write-out
-element-write-out c = search needs
+slice-write-cells : tie.Need-slice-write-cells
+slice-write-cells c = search needs
+
+same-length : tie.Need-same-length
+same-length c = search needs
 
 returns : tie.Need-returns
-unfolding tightenOf
-returns c = ap (set (c .before .before .args .t1 .cells) _) (c .tighter .ensures)
+returns c = tighten-is _ _ _ _ _ (c .tighter .ensures)
 
 pub tighten-spec : {M : Type 1} → statement M
 tighten-spec =
@@ -38,8 +38,9 @@ tighten-spec =
     mul-at
     add-at
     mul-old
-    element-copy-out-old
+    slice-read-old
     tighter-requires
-    mul-out
-    element-write-out
+    mul-cells
+    slice-write-cells
+    same-length
     returns)

@@ -1,29 +1,26 @@
--- `zones::unbounded` meets its contract. The cells passed are those of `blankOf`; the measure is what is left.
+-- `zones::unbounded` meets its contract. The places passed of the diagonal are stored; the measure is what is left.
 use mathlib.Core.Path.{_≡_}
-use Prim.Native.Nat.{ℕ, _≤_, _<_, _-_}
-use native.Mathlib.Omega.{arith}
+use Prim.Native.Nat.{_≤_, _-_}
+use Rattle.zones.specs.Building.{Diagonal, diagonal-none, diagonal-more, diagonal-all}
 use borrow.Author.Needs.{needs}
-use lib.ListN.{length, getD, length-set}
-use Rattle.zones.specs.Tab.{is-tab, tab-more}
-use Rattle.zones.specs.Cells.{blankOf, unboundedOf}
+use native.Mathlib.Omega.{arith}
 use Rattle.zones.proofs.unbounded.Statement.{statement}
 use Rattle.zones.proofs.unbounded.Tie as tie
 
 abbrev Inv-loop : tie.InvT-loop
-Inv-loop cells₀ i₀ cells i =
-    (i ≤ 441) × (length cells ≡ 441) × ((k : ℕ) → k < i → getD cells k 0 ≡ blankOf k)
+Inv-loop cells₀ i₀ cells i = (i ≤ 21) × Diagonal i cells
 
 abbrev μ-loop : tie.MeasureT-loop
-μ-loop cells₀ i₀ cells i = 441 - i
+μ-loop cells₀ i₀ cells i = 21 - i
 
 loop-holds : tie.Need-loop-holds Inv-loop μ-loop
-loop-holds c = search needs
-
-blank-requires : tie.Need-blank-requires Inv-loop μ-loop
-blank-requires c κs = search needs
+loop-holds c = (search needs, diagonal-none)
 
 mul-cells : tie.Need-mul-cells Inv-loop μ-loop
 mul-cells c = search needs
+
+mul-cells-2 : tie.Need-mul-cells-2 Inv-loop μ-loop
+mul-cells-2 c = search needs
 
 array-write-cells : tie.Need-array-write-cells Inv-loop μ-loop
 array-write-cells c = search needs
@@ -36,18 +33,14 @@ loop-less c = search needs
 
 loop-again : tie.Need-loop-again Inv-loop μ-loop
 loop-again c =
-    let h = c .before .before in (
-      search needs,
-      simp length-set (h .loop .inv .1),
-      tab-more blankOf (h .loop .cells) (h .loop .i) (c .blank .result)
-          (omega arith) (c .blank .ensures) (h .loop .inv .2),
-    )
+    let h = c .before in
+    (search needs, diagonal-more (h .loop .i) (h .loop .cells) (omega arith) (h .loop .inv .1))
 
 returns : tie.Need-returns Inv-loop μ-loop
-unfolding unboundedOf
 returns c =
     let h = c .before in
-    is-tab 441 blankOf (h .loop .cells) (h .loop .inv .1) (λ k b. h .loop .inv .2 k (omega arith))
+    let e : h .loop .i ≡ 21 = omega arith in
+    diagonal-all (h .loop .cells) (rw e at (h .loop .inv .1))
 
 pub unbounded-spec : {M : Type 1} → statement M
 unbounded-spec =
@@ -56,8 +49,8 @@ unbounded-spec =
     Inv-loop
     μ-loop
     loop-holds
-    blank-requires
     mul-cells
+    mul-cells-2
     array-write-cells
     add-i
     loop-less
