@@ -15,7 +15,7 @@ use Rattle.runs.specs.Demand.{guardDemands, guardsDemands, stepsDemands, startD
 use Rattle.runs.specs.DemandOrder.{demands-is}
 use Rattle.runs.specs.Copies.{copies-member}
 use Rattle.runs.specs.Tools.{Every, every-nil, every-cons}
-use Rattle.constraints.specs.Rest.{demandsOf}
+use Rattle.constraints.specs.Demands.{demandsOf}
 use Rattle.constraints.specs.Rounds.{length-rounds}
 
 -- ---- a guard has at most two

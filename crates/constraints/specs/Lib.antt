@@ -1,11 +1,7 @@
-pub mod Cursor
-pub mod Rest
-pub mod Constraints
+pub mod Pieces
+pub mod Rounds
+pub mod Demands
+pub mod Guards
+pub mod Resets
 pub mod Count
 pub mod Number
-pub mod Moves
-pub mod Resets
-pub mod Rounds
-pub mod Left
-pub mod Turn
-pub mod Follow

@@ -14,8 +14,8 @@ use Rattle.table.specs.declared.Table.{Table}
 use Rattle.runs.specs.Run.{copies, zeroed}
 use Rattle.runs.specs.Demand.{guardDemands, guardsDemands, stepsDemands, startDemands, anyStarts}
 use Rattle.runs.specs.DemandOrder.{demands-is}
-use Rattle.constraints.specs.Cursor.{twiceOf}
-use Rattle.constraints.specs.Rest.{demandsOf}
+use Rattle.constraints.specs.Pieces.{twiceOf}
+use Rattle.constraints.specs.Demands.{demandsOf}
 use Rattle.constraints.specs.Count.{starts-few}
 
 -- ---- of a guard, and of guards: they do not depend on the moment, nor on the last resets

@@ -12,7 +12,7 @@ use Rattle.table.specs.Step.{stepAt, resets}
 use Rattle.table.specs.declared.Table.{Table}
 use Rattle.runs.specs.Run.{zeroed}
 use Rattle.runs.specs.DemandOrder.{SameResets}
-use Rattle.constraints.specs.Cursor.{fresh, resetTo, resetOf}
+use Rattle.constraints.specs.Pieces.{fresh, resetTo, resetOf}
 
 module _ (flags : List Bool) (s i : ℕ) (z : List ℕ) where
   -- the last reset of clock j after step s at moment i

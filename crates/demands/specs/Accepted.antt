@@ -10,7 +10,7 @@ use Rattle.table.specs.declared.Table.{Table}
 use Rattle.table.specs.Step.{stepsOf, Good}
 use Rattle.runs.specs.Run.{copies}
 use Rattle.runs.specs.Demand.{demands, anyStarts, Clocks}
-use Rattle.constraints.specs.Rest.{demandsOf as tableDemands}
+use Rattle.constraints.specs.Demands.{demandsOf as tableDemands}
 use Rattle.wire.specs.Reading.{readOf}
 use Rattle.wire.specs.Listing.{listing, cycle}
 use Rattle.wire.specs.Fill.{tableOf}

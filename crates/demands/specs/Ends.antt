@@ -14,12 +14,11 @@ use Rattle.runs.specs.DemandOrder.{demands-is, stepsDemands-nil, stepsDemands-s
 use Rattle.runs.specs.DemandRange.{Proper}
 use Rattle.runs.specs.Copies.{fairs-copies}
 use Rattle.runs.specs.Tools.{Every}
-use Rattle.constraints.specs.declared.Cursor.{Cursor}
-use Rattle.constraints.specs.Cursor.{fresh, firstOf}
-use Rattle.constraints.specs.Rest.{demandsOf}
+use Rattle.constraints.specs.Pieces.{fresh}
+use Rattle.constraints.specs.Demands.{demandsOf}
 use Rattle.constraints.specs.Resets.{fresh-same}
 use Rattle.constraints.specs.Rounds.{length-rounds, fairs-drop}
-use Rattle.constraints.specs.Constraints.{all-proper}
+use Rattle.constraints.specs.Demands.{all-proper}
 use Rattle.demands.specs.Lines.{cells, over, Small}
 use Rattle.demands.specs.Accepted.{Ready}
 use Rattle.demands.specs.Writing.{Fits, Left, left-all, left-as, sets-over}
@@ -54,19 +53,17 @@ module _ {t : Table} {k : ℕ} (ready : Ready t k) where
       (stepsDemands-same σ 0 (λ j. k * t .steps + j) (λ j. getD (fresh (k * t .steps)) j 0) (rounds-fair 0)
       (fresh-same (k * t .steps)))
 
-  pub passed-first : {c : Cursor} (row : List ℤ) → 4 * length (demandsOf t k) ≤ length row → c ≡ firstOf (k * t .steps)
-      → Passed t k row row 0 0 0 (c .resets)
-  unfolding firstOf
-  passed-first {c} row h e =
-      let z : c .resets ≡ fresh (k * t .steps) = ap (λ x. x .resets) e in
+  pub passed-first : {z : List ℕ} (row : List ℤ) → 4 * length (demandsOf t k) ≤ length row → z ≡ fresh (k * t .steps)
+      → Passed t k row row 0 0 0 z
+  passed-first {z} row h e =
       record {
         round = 0;
         step = omega (arith, ready .sound .good .steps-some);
         steps = omega arith;
         few = omega arith;
-        resets = ap length z;
+        resets = ap length e;
         left =
-            left-as (all-due ∙ ap (λ y. stepsDue t k 0 y ++ startsDue t k) (sym z))
+            left-as (all-due ∙ ap (λ y. stepsDue t k 0 y ++ startsDue t k) (sym e))
             (left-all (record { room = omega arith; small = all-small }));
       }
 

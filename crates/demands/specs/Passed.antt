@@ -13,8 +13,8 @@ use Rattle.table.specs.declared.Table.{Table}
 use Rattle.runs.specs.Run.{copies}
 use Rattle.runs.specs.declared.Demand.{Demand}
 use Rattle.runs.specs.Demand.{stepsDemands, startDemands, anyStarts}
-use Rattle.constraints.specs.Cursor.{begun, resetOf}
-use Rattle.constraints.specs.Rest.{demandsOf, guardsFrom}
+use Rattle.constraints.specs.Pieces.{resetOf}
+use Rattle.constraints.specs.Demands.{demandsOf, guardsFrom}
 use Rattle.demands.specs.Writing.{Left}
 
 -- the number of the step after step s, when a round has L steps
@@ -36,7 +36,7 @@ stepsDue t k i z = stepsDemands (drop i (copies (stepsOf t) k)) i (λ j. getD z 
 
 -- the demands of the guards of step s, at moment i + 1, from place g on, and those of the steps after it
 abbrev pub guardsDue : Table → ℕ → ℕ → List ℕ → ℕ → List Demand
-guardsDue t s i z g = guardsFrom t (begun (i + 1) s z) g
+guardsDue t s i z g = guardsFrom t s (i + 1) z g
 
 abbrev pub laterDue : Table → ℕ → ℕ → ℕ → List ℕ → List Demand
 laterDue t k s i z = stepsDue t k (i + 1) (resetOf (t .resets) s (i + 1) z) ++ startsDue t k

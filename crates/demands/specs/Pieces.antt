@@ -12,7 +12,7 @@ use Rattle.table.specs.declared.Relation.the-variants.{Under, AtMost, Exactly, 
 use Rattle.runs.specs.declared.Demand.{Demand}
 use Rattle.runs.specs.Demand.{plus, guardDemands, startDemands, anyStarts}
 use Rattle.runs.specs.DemandOrder.{startDemands-zero, startDemands-suc}
-use Rattle.constraints.specs.Cursor.{guardDemand, twiceOf}
+use Rattle.constraints.specs.Pieces.{guardDemand, twiceOf}
 use Rattle.demands.specs.Writing.{Fits, Wrote, Left, left-all, fits-front, left-next, left-done, left-as}
 
 -- ---- a guard: its first demand, and the second where it has two

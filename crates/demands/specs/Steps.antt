@@ -15,9 +15,9 @@ use Rattle.runs.specs.Run.{copies, zeroed}
 use Rattle.runs.specs.declared.Demand.{Demand}
 use Rattle.runs.specs.Demand.{plus, guardDemands, stepsDemands}
 use Rattle.runs.specs.DemandOrder.{stepsDemands-cons, stepsDemands-same}
-use Rattle.constraints.specs.Cursor.{begun, resetOf}
-use Rattle.constraints.specs.Rest.{demandsOf, guardsFrom}
-use Rattle.constraints.specs.Left.{guards-more, guards-end}
+use Rattle.constraints.specs.Pieces.{resetOf}
+use Rattle.constraints.specs.Demands.{demandsOf, guardsFrom}
+use Rattle.constraints.specs.Guards.{guards-more, guards-end}
 use Rattle.constraints.specs.Resets.{length-reset, reset-same}
 use Rattle.constraints.specs.Rounds.{rounds-drop, guard-fair}
 use Rattle.demands.specs.Accepted.{Ready}
@@ -96,7 +96,7 @@ module _ {t : Table} {k : ℕ} (ready : Ready t k) where
           let room = ready .sound .good .room (s + 1) (omega (arith, p .step)) in
           left-as
           (ap (λ ds. ds ++ laterDue t k s i z)
-          (guards-more t (begun (i + 1) s z) g d l (omega (arith, room, ready .sound .good .guards-size)))
+          (guards-more t s (i + 1) z g d l (omega (arith, room, ready .sound .good .guards-size)))
           ∙ append-assoc here (guardsDue t s i z (g + 1)) (laterDue t k s i z))
           (p .left)
 
@@ -129,7 +129,7 @@ module _ {t : Table} {k : ℕ} (ready : Ready t k) where
             let n : g ≡ getD (t .ends) (s + 1) 0 = omega (arith, p .last) in
             left-as
             (ap (λ m. guardsDue t s i z m ++ laterDue t k s i z) n
-            ∙ ap (λ ds. ds ++ laterDue t k s i z) (guards-end t (begun (i + 1) s z))
+            ∙ ap (λ ds. ds ++ laterDue t k s i z) (guards-end t s (i + 1) z)
             ∙ ap (λ y. stepsDue t k (i + 1) y ++ startsDue t k) (sym e))
             (p .left)
 

@@ -8,7 +8,7 @@ use lib.ListN.{length, getD}
 use lib.Seq.{slice, slice-empty, slice-cons}
 use Rattle.table.specs.declared.Guard.{Guard}
 use Rattle.table.specs.declared.Table.{Table}
-use Rattle.constraints.specs.Rest.{demandsOf}
+use Rattle.constraints.specs.Demands.{demandsOf}
 use Rattle.constraints.specs.Count.{demands-bounded}
 use Rattle.constraints.specs.Number.{guardNumber, guardsNumber, guards-nil, guards-cons, ends-order, demands-number}
 use Rattle.demands.specs.Accepted.{Ready}

@@ -15,7 +15,7 @@ ghost use lib.IntN.{pos};
 ghost use lib.ListN.{length};
 ghost use lib.Seq.{sets};
 ghost use Rattle.runs.specs.Demand.{plus, guardDemands, startDemands, anyStarts};
-ghost use Rattle.constraints.specs.Rest.{demandsOf};
+ghost use Rattle.constraints.specs.Demands.{demandsOf};
 ghost use Rattle.constraints.specs.Number.{guardNumber};
 ghost use Rattle.demands.specs.Lines.{boundOf, strictOf, cells, over, Small};
 ghost use Rattle.demands.specs.Listed.{refusedFor, inRange, answerOf, listedOf, unlessRefused};
@@ -194,8 +194,7 @@ fn write(t: Table, k: usize, row: &mut [i64])
 {
     let flags = t.resets;
     let total = k * t.steps;
-    let fresh = constraints::first(total);
-    let mut resets = fresh.resets;
+    let mut resets = constraints::fresh(total);
     let mut q: usize = 0;
     let mut past: usize = 0;
     let mut s: usize = 0;

@@ -9,7 +9,7 @@ use native.Mathlib.Decide.{decLe}
 use lib.ListN.{length}
 use Rattle.table.specs.declared.Table.{Table}
 use Rattle.runs.specs.declared.Demand.{Demand}
-use Rattle.constraints.specs.Rest.{demandsOf}
+use Rattle.constraints.specs.Demands.{demandsOf}
 use Rattle.constraints.specs.Count.{demands-bounded}
 use Rattle.paths.specs.Places.{at, length-written}
 use Rattle.paths.specs.Constraint.{Constraint}

@@ -6,8 +6,8 @@ use Prim.Native.Nat.{ℕ}
 use Rattle.table.specs.declared.Relation.{Relation}
 use Rattle.runs.specs.declared.Demand.{Demand}
 use Rattle.runs.specs.Demand.{guardDemands}
-use Rattle.constraints.specs.Cursor.{guardDemand, twiceOf}
-use Rattle.constraints.specs.Left.{guard-once, guard-twice}
+use Rattle.constraints.specs.Pieces.{guardDemand, twiceOf}
+use Rattle.constraints.specs.Guards.{guard-once, guard-twice}
 use Rattle.paths.specs.State.{State}
 use Rattle.plan.specs.Checks.{Checkable, Checked, checkable-left, checkable-right, checked-append}
 

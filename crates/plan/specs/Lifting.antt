@@ -12,8 +12,8 @@ use Rattle.runs.specs.declared.Demand.{Demand}
 use Rattle.runs.specs.Demand.{plus, guardDemands}
 use Rattle.runs.specs.DemandRange.{Proper}
 use Rattle.runs.specs.Tools.{Every, every-append}
-use Rattle.constraints.specs.Cursor.{fresh, resetOf, guardDemand}
-use Rattle.constraints.specs.Rest.{demandsOf}
+use Rattle.constraints.specs.Pieces.{fresh, resetOf, guardDemand}
+use Rattle.constraints.specs.Demands.{demandsOf}
 use Rattle.paths.specs.Places.{at, written}
 use Rattle.plan.specs.InParts.{inParts, allInParts}
 use Rattle.plan.specs.Sized.{partsOf, constraintsOf, sized-fits, sized-proper, sized-gain, sized-loss}

@@ -14,8 +14,8 @@ use Rattle.runs.specs.DemandRange.{Proper}
 use Rattle.runs.specs.Parts.{bit, gain, loss}
 use Rattle.runs.specs.Tools.{Every}
 use Rattle.paths.specs.Constraint.{Constraint, Fits}
-use Rattle.constraints.specs.Rest.{demandsOf}
-use Rattle.constraints.specs.Constraints.{all-proper}
+use Rattle.constraints.specs.Demands.{demandsOf}
+use Rattle.constraints.specs.Demands.{all-proper}
 use Rattle.plan.specs.Asked.{Asked, asked-any}
 use Rattle.plan.specs.InParts.{allInParts}
 use Rattle.plan.specs.Passes.{parts-fit}

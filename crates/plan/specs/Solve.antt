@@ -8,7 +8,7 @@ use Rattle.table.specs.Step.{Step}
 use Rattle.table.specs.declared.Table.{Table}
 use Rattle.runs.specs.Demand.{anyStarts}
 use Rattle.runs.specs.Loop.{Loop}
-use Rattle.constraints.specs.Rest.{demandsOf}
+use Rattle.constraints.specs.Demands.{demandsOf}
 use Rattle.constraints.specs.Rounds.{length-rounds}
 use Rattle.paths.specs.Places.{at, written, filled, length-written, at-written, at-written-rest, drop-written}
 use Rattle.paths.specs.State.{State, state}

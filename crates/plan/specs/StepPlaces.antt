@@ -19,7 +19,7 @@ use Rattle.runs.specs.Demand.{plus, guardDemands, guardsDemands, stepsDemands}
 use Rattle.runs.specs.DemandOrder.{stepsDemands-nil, stepsDemands-cons, guardsDemands-nil, guardsDemands-cons}
 use Rattle.runs.specs.DemandOrder.{stepsDemands-same}
 use Rattle.runs.specs.Copies.{fairs-copies}
-use Rattle.constraints.specs.Cursor.{fresh, resetOf}
+use Rattle.constraints.specs.Pieces.{fresh, resetOf}
 use Rattle.constraints.specs.Resets.{length-reset, reset-same, fresh-same}
 use Rattle.constraints.specs.Rounds.{length-rounds, rounds-drop, fairs-drop, guard-fair}
 use Rattle.plan.specs.Sized.{roundsOf}

@@ -11,7 +11,7 @@ use Rattle.table.specs.declared.Guard.{Guard}
 use Rattle.table.specs.declared.Table.{Table}
 use Rattle.runs.specs.declared.Demand.{Demand}
 use Rattle.runs.specs.Demand.{plus, guardDemands}
-use Rattle.constraints.specs.Cursor.{fresh, resetOf}
+use Rattle.constraints.specs.Pieces.{fresh, resetOf}
 use Rattle.paths.specs.State.{State}
 use Rattle.plan.specs.Sized.{partsOf}
 use Rattle.plan.specs.Checks.{Checkable, Checked}

@@ -9,7 +9,7 @@ use Rattle.table.specs.declared.Table.{Table}
 use Rattle.runs.specs.declared.Demand.{Demand}
 use Rattle.runs.specs.Demand.{stepsDemands, startDemands, anyStarts}
 use Rattle.runs.specs.DemandOrder.{demands-is}
-use Rattle.constraints.specs.Rest.{demandsOf}
+use Rattle.constraints.specs.Demands.{demandsOf}
 use Rattle.constraints.specs.Count.{demands-bounded}
 use Rattle.constraints.specs.Rounds.{length-rounds}
 use Rattle.paths.specs.State.{State}

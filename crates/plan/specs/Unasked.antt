@@ -10,7 +10,7 @@ use borrow.Author.Tests.{lt-ltb}
 use Rattle.table.specs.declared.Relation.{Relation}
 use Rattle.table.specs.declared.Relation.the-variants.{Under, AtMost, Exactly, AtLeast, Over}
 use Rattle.runs.specs.Demand.{plus, guardDemands, startDemands, anyStarts}
-use Rattle.constraints.specs.Cursor.{guardDemand}
+use Rattle.constraints.specs.Pieces.{guardDemand}
 use Rattle.paths.specs.Places.{at}
 use Rattle.plan.specs.InParts.{inParts, allInParts}
 use Rattle.plan.specs.Lift.{placeOf, liftOf, lift-none, liftsOf}

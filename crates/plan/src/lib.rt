@@ -1,6 +1,6 @@
 // The question "plan for k": the earliest moments and the smallest starts of k rounds, or a negative cycle (01: loop).
 use constraints::choose;
-use constraints::first;
+use constraints::fresh;
 use constraints::guard_demand;
 use constraints::twice;
 use paths::fill;
@@ -23,7 +23,7 @@ ghost use lib.Dec.{eqb};
 ghost use Rattle.runs.specs.Parts.{bit, gain};
 ghost use Rattle.runs.specs.Demand.{plus, guardDemands, startDemands, anyStarts};
 ghost use lib.ListN.{length};
-ghost use Rattle.constraints.specs.Cursor.{resetOf};
+ghost use Rattle.constraints.specs.Pieces.{resetOf};
 ghost use Rattle.paths.specs.Places.{at, written};
 ghost use Rattle.paths.specs.State.{state};
 ghost use Rattle.plan.specs.InParts.{inParts};
@@ -172,8 +172,7 @@ fn check_steps(
     let flags = t.resets;
     let total = k * t.steps;
     let parts = (total + t.clocks + 1) as u64;
-    let c = first(total);
-    let mut resets = c.resets;
+    let mut resets = fresh(total);
     let mut swept = w;
     let mut i: usize = 0;
     let mut s: usize = 0;
@@ -324,8 +323,7 @@ fn write_starts(t: Table, k: usize, time: &[u64], starts: &mut [u64])
     let total = k * t.steps;
     let parts = (total + t.clocks + 1) as u64;
     fill(starts, t.clocks, 0);
-    let c = first(total);
-    let mut resets = c.resets;
+    let mut resets = fresh(total);
     let mut i: usize = 0;
     let mut s: usize = 0;
     let mut g: usize = 0;

@@ -6,7 +6,7 @@ use borrow.Author.Needs.{needs}
 use Rattle.table.specs.declared.Relation.{Relation}
 use Rattle.table.specs.declared.Relation.the-variants.{Under, AtMost, Exactly, AtLeast, Over}
 use Rattle.runs.specs.declared.Demand.{Demand}
-use Rattle.constraints.specs.Cursor.{guardDemand}
+use Rattle.constraints.specs.Pieces.{guardDemand}
 use Rattle.constraints.proofs.guard_demand.Statement.{statement}
 use Rattle.constraints.proofs.guard_demand.Tie as tie
 

@@ -5,7 +5,7 @@ use Prim.Native.Nat.{_≤_, _-_}
 use lib.ListN.{length}
 use borrow.Author.Needs.{needs}
 use native.Mathlib.Omega.{arith}
-use Rattle.constraints.specs.Cursor.{resetTo}
+use Rattle.constraints.specs.Pieces.{resetTo}
 use Rattle.constraints.specs.Resets.{reset-more}
 use Rattle.constraints.proofs.reset_at.Statement.{statement}
 use Rattle.constraints.proofs.reset_at.Tie as tie

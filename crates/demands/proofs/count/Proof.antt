@@ -4,7 +4,7 @@ use native.Mathlib.Omega.{arith}
 use mathlib.Core.Path.{_≡_}
 use Prim.Native.Nat.{_+_, _*_, _-_, _≤_}
 use lib.ListN.{length}
-use Rattle.constraints.specs.Rest.{demandsOf}
+use Rattle.constraints.specs.Demands.{demandsOf}
 use Rattle.constraints.specs.Count.{demands-bounded}
 use Rattle.demands.specs.Tally.{Tallied, tallied-first, tallied-few, tallied-done, tallied-next}
 use Rattle.demands.proofs.count.Statement.{statement}

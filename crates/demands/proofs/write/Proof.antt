@@ -22,21 +22,21 @@ abbrev μ-loop : tie.MeasureT-loop
 mul-total : tie.Need-mul-total Inv-loop μ-loop
 mul-total c = search needs
 
-first-requires : tie.Need-first-requires Inv-loop μ-loop
-first-requires c κs = search needs
+fresh-requires : tie.Need-fresh-requires Inv-loop μ-loop
+fresh-requires c κs = search needs
 
 element-copy-out-g : tie.Need-element-copy-out-g Inv-loop μ-loop
 element-copy-out-g c = search needs
 
 loop-holds : tie.Need-loop-holds Inv-loop μ-loop
 loop-holds c =
-    let start = c .before .before .before .before in
-    outside (passed-first (start .pre .0) _ (start .pre .1) (c .before .before .first .ensures)) refl
+    let start = c .before .before .before in
+    outside (passed-first (start .pre .0) _ (start .pre .1) (c .before .fresh .ensures)) refl
 
 put-order-requires : tie.Need-put-order-requires Inv-loop μ-loop
 put-order-requires c κs =
     let loop = c .before .before .before in
-    let start = loop .before .before .before .before .before in (
+    let start = loop .before .before .before .before in (
       omega (arith, start .pre .0 .few),
       order-fits (start .pre .0) (as-outside (loop .loop .inv) (c .before .if1 .taken) .0) (omega arith),
     )
@@ -48,14 +48,14 @@ loop-again : tie.Need-loop-again Inv-loop μ-loop
 loop-again c =
     let test = c .before .before .before in
     let loop = test .before .before in
-    let start = loop .before .before .before .before .before in
+    let start = loop .before .before .before .before in
     let out = as-outside (loop .loop .inv) (test .if1 .taken) in
     inside (passed-order (start .pre .0) (out .0) (omega arith) (out .1) (c .before .put-order .ensures))
 
 -- inside a step
 module _ (c : tie.Else1 Inv-loop μ-loop) where
   abbrev start : tie.Start Inv-loop μ-loop
-  start = c .before .before .before .before .before .before .before
+  start = c .before .before .before .before .before .before
 
   within : Inside (start .args .t1) (start .args .k) (start .args .row .now) (c .before .before .loop .row)
       (c .before .before .loop .q) (c .before .before .loop .past) (c .before .before .loop .s)
@@ -164,20 +164,20 @@ loop-again-3 c =
 put-starts-requires : tie.Need-put-starts-requires Inv-loop μ-loop
 put-starts-requires c κs =
     let loop = c .before .before in
-    let start = loop .before .before .before .before .before in
+    let start = loop .before .before .before .before in
     let p = as-done (loop .loop .inv) (omega arith) in
     (start .pre .0 .sound .good .clocks-few, start .pre .0 .few, starts-fit (start .pre .0) p (omega arith))
 
 same-length : tie.Need-same-length Inv-loop μ-loop
 same-length c =
     let loop = c .before .before .before .before in
-    let start = loop .before .before .before .before .before in
+    let start = loop .before .before .before .before in
     passed-long (start .pre .0) (as-done (loop .loop .inv) (omega arith)) (omega arith) (c .before .put-starts .ensures)
 
 returns : tie.Need-returns Inv-loop μ-loop
 returns c =
     let loop = c .before .before .before .before in
-    let start = loop .before .before .before .before .before in
+    let start = loop .before .before .before .before in
     passed-done (start .pre .0) (as-done (loop .loop .inv) (omega arith)) (omega arith) (start .pre .1)
     (c .before .put-starts .ensures)
 
@@ -188,7 +188,7 @@ write-spec =
     Inv-loop
     μ-loop
     mul-total
-    first-requires
+    fresh-requires
     element-copy-out-g
     loop-holds
     put-order-requires

@@ -5,7 +5,6 @@ use mathlib.Core.Path.{sym, ap}
 use Prim.Native.Nat.{_<_}
 use native.Mathlib.Nat.{le-of-lt}
 use native.Mathlib.Omega.{arith}
-use Rattle.constraints.specs.Cursor.{firstOf}
 use Rattle.paths.specs.State.{state}
 use Rattle.plan.specs.Turns.{turn-size}
 use Rattle.plan.specs.StepPlaces.{workAt, place-end, order-less, guard-less, guard-clock, turn-less}
@@ -25,7 +24,7 @@ abbrev μ-loop : tie.MeasureT-loop
 
 -- ---- places: where it began; in the loop a step that waits, a guard, the end of a step, and the checks
 abbrev entry : tie.At-loop Inv-loop μ-loop → tie.Start Inv-loop μ-loop
-entry c = c .before .before .before .before .before .before .before .before
+entry c = c .before .before .before .before .before .before .before
 
 abbrev waiting : tie.Then1 Inv-loop μ-loop → tie.At-loop Inv-loop μ-loop
 waiting c = c .before .before
@@ -63,14 +62,13 @@ add-parts c = search needs
 add-parts-2 : tie.Need-add-parts-2 Inv-loop μ-loop
 add-parts-2 c = search needs
 
-first-requires : tie.Need-first-requires Inv-loop μ-loop
-first-requires c κs = search needs
+fresh-requires : tie.Need-fresh-requires Inv-loop μ-loop
+fresh-requires c κs = search needs
 
 loop-holds : tie.Need-loop-holds Inv-loop μ-loop
-unfolding firstOf
 loop-holds c =
-    let s = c .before .before .before .before .before .before .before in
-    stepping-first _ _ (s .pre .0 .good) _ _ _ (s .pre .1) _ (ap (λ f. f .resets) (c .before .first .ensures))
+    let s = c .before .before .before .before .before .before in
+    stepping-first _ _ (s .pre .0 .good) _ _ _ (s .pre .1) _ (c .fresh .ensures)
 
 add-not-after : tie.Need-add-not-after Inv-loop μ-loop
 add-not-after c = search needs
@@ -247,7 +245,7 @@ check-steps-spec =
     mul-total
     add-parts
     add-parts-2
-    first-requires
+    fresh-requires
     loop-holds
     add-not-after
     not-after-requires

@@ -4,7 +4,7 @@ use Prim.Native.Nat.{_≤_, _-_}
 use lib.ListN.{length}
 use borrow.Author.Needs.{needs}
 use native.Mathlib.Omega.{arith}
-use Rattle.constraints.specs.Cursor.{resetTo}
+use Rattle.constraints.specs.Pieces.{resetTo}
 use Rattle.constraints.specs.Resets.{reset-stored}
 use Rattle.plan.proofs.reset_clocks.Statement.{statement}
 use Rattle.plan.proofs.reset_clocks.Tie as tie

@@ -5,7 +5,6 @@ use mathlib.Core.Path.{sym, ap, _∙_}
 use Prim.Native.Nat.{_<_}
 use native.Mathlib.Nat.{le-of-lt}
 use native.Mathlib.Omega.{arith}
-use Rattle.constraints.specs.Cursor.{firstOf}
 use Rattle.plan.specs.StepPlaces.{workAt, place-end, order-less, guard-less, guard-clock, turn-less}
 use Rattle.plan.specs.Lift.{filled-startable, filled-zero, filled-size, filled-written}
 use Rattle.plan.specs.Lifting.{Lifting, lifting-first, lifting-order, lifting-liftable, lifting-guard, lifting-turn}
@@ -23,10 +22,10 @@ abbrev μ-loop : tie.MeasureT-loop
 
 -- ---- places: where it began, and the starts filled with 0; in the loop a step that waits, a guard, the end of a step
 abbrev entry : tie.At-loop Inv-loop μ-loop → tie.Start Inv-loop μ-loop
-entry c = c .before .before .before .before .before .before .before .before .before .before .before
+entry c = c .before .before .before .before .before .before .before .before .before .before
 
 abbrev filled : tie.At-loop Inv-loop μ-loop → tie.After-fill Inv-loop μ-loop
-filled c = c .before .before .before .before .before
+filled c = c .before .before .before .before
 
 abbrev waiting : tie.Then1 Inv-loop μ-loop → tie.At-loop Inv-loop μ-loop
 waiting c = c .before .before
@@ -58,15 +57,14 @@ add-parts-2 c = search needs
 fill-requires : tie.Need-fill-requires Inv-loop μ-loop
 fill-requires c κs = search needs
 
-first-requires : tie.Need-first-requires Inv-loop μ-loop
-first-requires c κs = search needs
+fresh-requires : tie.Need-fresh-requires Inv-loop μ-loop
+fresh-requires c κs = search needs
 
 loop-holds : tie.Need-loop-holds Inv-loop μ-loop
-unfolding firstOf
 loop-holds c =
-    let s = c .before .before .before .before .before .before .before .before .before .before in
-    lifting-first _ _ _ _ (filled-startable _ _ _ _ _ (s .pre) (c .before .before .before .before .fill .ensures)) _
-    (ap (λ f. f .resets) (c .before .first .ensures))
+    let s = c .before .before .before .before .before .before .before .before .before in
+    lifting-first _ _ _ _ (filled-startable _ _ _ _ _ (s .pre) (c .before .before .before .fill .ensures)) _
+    (c .fresh .ensures)
 
 mul-g : tie.Need-mul-g Inv-loop μ-loop
 mul-g c = let m = low (waiting c) in search needs
@@ -227,7 +225,7 @@ write-starts-spec =
     add-parts
     add-parts-2
     fill-requires
-    first-requires
+    fresh-requires
     loop-holds
     mul-g
     array-read-g

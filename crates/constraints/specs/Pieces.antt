@@ -1,0 +1,37 @@
+-- What demands are made of: the last resets, and the demands of a guard, one at a time.
+use mathlib.Core.Bool.{Bool, true, false, cond}
+use mathlib.Core.List.{List, [], _∷_}
+use Prim.Native.Nat.{ℕ, zero, suc, _+_, _*_}
+use lib.ListN.{getD, set}
+use Rattle.table.specs.declared.Relation.{Relation}
+use Rattle.table.specs.declared.Relation.the-variants.{Under, AtMost, Exactly, AtLeast, Over}
+use Rattle.runs.specs.declared.Demand.{Demand}
+use Rattle.runs.specs.Demand.{plus, minus}
+
+-- no clock was reset yet: the last reset of clock j is at moment K + j
+abbrev pub fresh : ℕ → List ℕ
+fresh K = K ∷ (K + 1) ∷ (K + 2) ∷ (K + 3) ∷ (K + 4) ∷ (K + 5) ∷ (K + 6) ∷ []
+
+-- the last resets of clocks below j after step s at moment i, and of the others before it
+unfoldable pub resetTo : List Bool → ℕ → ℕ → List ℕ → ℕ → List ℕ
+resetTo flags s i z zero = z
+resetTo flags s i z (suc j) = set (resetTo flags s i z j) j (cond (getD flags (7 * s + j) false) i (getD z j 0))
+
+abbrev pub resetOf : List Bool → ℕ → ℕ → List ℕ → List ℕ
+resetOf flags s i z = resetTo flags s i z 7
+
+-- the second demand of a guard where it has two, else its only one
+abbrev pub guardDemand : Relation → ℕ → ℕ → ℕ → Bool → Demand
+guardDemand Under c z i second = plus z i c true
+guardDemand AtMost c z i second = plus z i c false
+guardDemand Exactly c z i second = cond second (minus i z c false) (plus z i c false)
+guardDemand AtLeast c z i second = minus i z c false
+guardDemand Over c z i second = minus i z c true
+
+-- whether a guard has two demands
+abbrev pub twiceOf : Relation → Bool
+twiceOf Under = false
+twiceOf AtMost = false
+twiceOf Exactly = true
+twiceOf AtLeast = false
+twiceOf Over = false
