@@ -1,20 +1,20 @@
-//! The C interface of the proved library (judge.h), as safe calls.
+//! The C interface of the proved library as safe calls, through through.c, which calls it as judge.h declares it.
 
 mod c {
     extern "C" {
-        pub fn judge_read(
+        pub fn through_read(
             table: *const u8,
             table_len: usize,
             answer: *mut u64,
             answer_len: usize,
         ) -> bool;
-        pub fn judge_rounds(
+        pub fn through_rounds(
             table: *const u8,
             table_len: usize,
             answer: *mut u64,
             answer_len: usize,
         ) -> bool;
-        pub fn judge_plan(
+        pub fn through_plan(
             table: *const u8,
             table_len: usize,
             k: u64,
@@ -27,7 +27,7 @@ mod c {
             answer: *mut u64,
             answer_len: usize,
         ) -> bool;
-        pub fn judge_demands(
+        pub fn through_demands(
             table: *const u8,
             table_len: usize,
             k: u64,
@@ -43,7 +43,7 @@ mod c {
 
 pub fn read(table: &[u8], answer: &mut [u64]) -> bool {
     unsafe {
-        c::judge_read(
+        c::through_read(
             table.as_ptr(),
             table.len(),
             answer.as_mut_ptr(),
@@ -54,7 +54,7 @@ pub fn read(table: &[u8], answer: &mut [u64]) -> bool {
 
 pub fn rounds(table: &[u8], answer: &mut [u64]) -> bool {
     unsafe {
-        c::judge_rounds(
+        c::through_rounds(
             table.as_ptr(),
             table.len(),
             answer.as_mut_ptr(),
@@ -72,7 +72,7 @@ pub fn plan(
     answer: &mut [u64],
 ) -> bool {
     unsafe {
-        c::judge_plan(
+        c::through_plan(
             table.as_ptr(),
             table.len(),
             k,
@@ -90,7 +90,7 @@ pub fn plan(
 
 pub fn demands(table: &[u8], k: u64, row: &mut [i64], answer: &mut [u64]) -> bool {
     unsafe {
-        c::judge_demands(
+        c::through_demands(
             table.as_ptr(),
             table.len(),
             k,

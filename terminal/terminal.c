@@ -1,13 +1,4 @@
-/* What a terminal shows at log-in for a timing table.
- *
- *   terminal [FILE [K]]
- *
- * The table is read from FILE, or from standard input without one or with "-". Shown are whether the table is allowed, how
- * many rounds it allows and the plan of 2 rounds, or of 1 where it allows no more. With K the plan of K rounds is shown
- * instead. Where there is no run, the loop of demands that contradict each other is shown in words.
- *
- * Exit status: 0 the table allows rounds (with K: it allows K rounds); 1 it does not; 2 it is refused; 3 the program could
- * not ask. */
+/* What a terminal shows at log-in for a timing table; `usage` says how it is asked. */
 #include "judge.h"
 
 #include <errno.h>
@@ -17,6 +8,17 @@
 #include <string.h>
 
 enum { ALLOWED = 0, NOT_ALLOWED = 1, REFUSED = 2, TROUBLE = 3 };
+
+static const char usage[] =
+    "usage: terminal [FILE [K]]\n"
+    "       terminal --help\n"
+    "\n"
+    "The table is read from FILE, or from standard input without one or with \"-\". Shown are whether the table is allowed, how\n"
+    "many rounds it allows and the plan of 2 rounds, or of 1 where it allows no more. With K the plan of K rounds is shown\n"
+    "instead. Where there is no run, the loop of demands that contradict each other is shown in words.\n"
+    "\n"
+    "Exit status: 0 the table allows rounds (with K: it allows K rounds); 1 it does not; 2 it is refused; 3 the program could\n"
+    "not ask.\n";
 
 /* One byte more than a table may have, so that a longer one is seen to be longer. */
 static uint8_t table[JUDGE_TABLE + 1];
@@ -210,8 +212,10 @@ static bool number(const char *text, uint64_t *value)
 int main(int argc, char **argv)
 {
     uint64_t k = 0;
+    if (argc == 2 && strcmp(argv[1], "--help") == 0)
+        return fputs(usage, stdout) < 0 || fflush(stdout) != 0 ? TROUBLE : 0;
     if (argc > 3 || (argc == 3 && !number(argv[2], &k))) {
-        fprintf(stderr, "usage: terminal [FILE [K]]\n");
+        fputs(usage, stderr);
         return TROUBLE;
     }
     const char *name = argc > 1 ? argv[1] : "-";

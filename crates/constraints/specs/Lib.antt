@@ -1,7 +1,11 @@
 pub mod Pieces
+pub mod Onward
 pub mod Rounds
 pub mod Demands
 pub mod Guards
 pub mod Resets
 pub mod Count
 pub mod Number
+pub mod Sized
+pub mod StepPlaces
+pub mod Going

@@ -1,7 +1,10 @@
--- What demands are made of: the last resets, and the demands of a guard, one at a time.
+-- What demands are made of: the last resets, the step that follows, and the demands of a guard, one at a time.
+use mathlib.Core.Path.{_≡_, ap}
 use mathlib.Core.Bool.{Bool, true, false, cond}
 use mathlib.Core.List.{List, [], _∷_}
 use Prim.Native.Nat.{ℕ, zero, suc, _+_, _*_}
+use borrow.Author.Tests.{eq-eqb, ne-eqb}
+use lib.Dec.{eqb}
 use lib.ListN.{getD, set}
 use Rattle.table.specs.declared.Relation.{Relation}
 use Rattle.table.specs.declared.Relation.the-variants.{Under, AtMost, Exactly, AtLeast, Over}
@@ -19,6 +22,16 @@ resetTo flags s i z (suc j) = set (resetTo flags s i z j) j (cond (getD flags (7
 
 abbrev pub resetOf : List Bool → ℕ → ℕ → List ℕ → List ℕ
 resetOf flags s i z = resetTo flags s i z 7
+
+-- the step after step s, when a round has L steps
+abbrev pub followingOf : ℕ → ℕ → ℕ
+followingOf s L = cond (eqb (s + 1) L) 0 (s + 1)
+
+pub following-round : (s L : ℕ) → s + 1 ≡ L → followingOf s L ≡ 0
+following-round s L e = ap (λ b. cond b 0 (s + 1)) (eq-eqb (s + 1) L e)
+
+pub following-on : (s L : ℕ) → (s + 1 ≡ L → ⊥) → followingOf s L ≡ s + 1
+following-on s L e = ap (λ b. cond b 0 (s + 1)) (ne-eqb (s + 1) L e)
 
 -- the second demand of a guard where it has two, else its only one
 abbrev pub guardDemand : Relation → ℕ → ℕ → ℕ → Bool → Demand

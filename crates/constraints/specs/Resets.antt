@@ -1,4 +1,4 @@
--- The last resets of a cursor, a list, are the function of `stepsDemands`.
+-- The last resets, a list, are the function of `stepsDemands`.
 use mathlib.Core.Path.{_≡_, refl, sym, ap, _∙_}
 use mathlib.Core.Bool.{Bool, false, cond}
 use mathlib.Core.List.{List}

@@ -2,10 +2,13 @@
 use runs::Demand;
 use table::Relation;
 ghost use mathlib.Core.Path.{_≡_};
-ghost use mathlib.Core.Bool.{cond};
-ghost use Prim.Native.Nat.{_≤_};
+ghost use mathlib.Core.Bool.{false, cond};
+ghost use Prim.Native.Nat.{_≤_, _<_};
 ghost use lib.ListN.{length};
-ghost use Rattle.constraints.specs.Pieces.{fresh, resetOf, guardDemand, twiceOf};
+ghost use Rattle.runs.specs.Demand.{plus};
+ghost use Rattle.runs.specs.Parts.{bit};
+ghost use Rattle.constraints.specs.Pieces.{fresh, resetOf, followingOf, guardDemand, twiceOf};
+ghost use Rattle.constraints.specs.Onward.{Standing, afterOf, resetsAfter};
 
 // The last resets before the first of `total` steps: that of clock j is moment total + j. Place 0 is not used.
 pub fn fresh(total: usize) -> [usize; 7]
@@ -36,6 +39,19 @@ fn demand(from: usize, to: usize, up: u64, down: u64, strict: bool) -> Demand
     }
 }
 
+// "From a to b of 0": moment b is not after moment a.
+pub fn not_after(from: usize, to: usize) -> Demand
+    ensures { λ r. ⌜ r ≡ plus from to 0 false ⌝ }
+{
+    Demand {
+        from,
+        to,
+        up: 0,
+        down: 0,
+        strict: false,
+    }
+}
+
 // The first or the second demand of a guard at moment i, when its clock was last reset at moment z.
 pub fn guard_demand(relation: Relation, constant: u64, z: usize, i: usize, second: bool) -> Demand
     ensures { λ r. ⌜ r ≡ guardDemand relation constant z i second ⌝ }
@@ -54,6 +70,13 @@ pub fn guard_demand(relation: Relation, constant: u64, z: usize, i: usize, secon
     }
 }
 
+// 1 for a strict demand.
+pub fn bit_of(strict: bool) -> u64
+    ensures { λ r. ⌜ r ≡ bit strict ⌝ }
+{
+    if strict { 1 } else { 0 }
+}
+
 // `a` where the flag is set, else `b`.
 pub fn choose(flag: bool, a: usize, b: usize) -> usize
     ensures { λ r. ⌜ r ≡ cond flag a b ⌝ }
@@ -61,18 +84,71 @@ pub fn choose(flag: bool, a: usize, b: usize) -> usize
     if flag { a } else { b }
 }
 
-// The last resets after a step at a moment.
-pub fn reset_at(flags: &[bool; 119], step: usize, moment: usize, resets: [usize; 7]) -> [usize; 7]
-    requires { ⌜ (length (now flags) ≡ 119) × (step ≤ 16) ⌝ }
-    ensures { λ r. ⌜ r ≡ resetOf (now (flags .entry)) step moment resets ⌝ }
+// The clocks that step s resets were last reset at its moment.
+pub fn reset_clocks(flags: &[bool; 119], s: usize, moment: usize, resets: &mut [usize])
+    requires { ⌜ (length (now flags) ≡ 119) × (s ≤ 16) × (length (now resets) ≡ 7) ⌝ }
+    ensures { λ _. ⌜ now (resets .exit) ≡ resetOf (now (flags .entry)) s moment (now (resets .entry)) ⌝ }
 {
-    let mut out = resets;
     let mut j: usize = 0;
     while j < 7 {
-        out[j] = choose(flags[7 * step + j], moment, resets[j]);
+        resets[j] = choose(flags[7 * s + j], moment, resets[j]);
         j += 1;
     }
-    out
+}
+
+// The step of a round that follows step s.
+pub fn following(s: usize, steps: usize) -> usize
+    requires { ⌜ s < 16 ⌝ }
+    ensures { λ r. ⌜ r ≡ followingOf s steps ⌝ }
+{
+    if s + 1 == steps { 0 } else { s + 1 }
+}
+
+// A place in the demands of the steps: so many steps are past, and the next is step `step` of its round. It has begun, that is,
+// its order demand is past, and its guards from place `guard` of the table are left; or all its demands are left.
+pub struct Cursor {
+    pub past: usize,
+    pub step: usize,
+    pub guard: usize,
+    pub begun: bool,
+}
+
+// The place after a place. Where that is the next step, the clocks that the step resets are reset.
+pub fn onward(
+    ends: &[usize; 18],
+    flags: &[bool; 119],
+    steps: usize,
+    here: Cursor,
+    resets: &mut [usize],
+) -> Cursor
+    requires { ⌜ Standing (now ends) (now flags) here (now resets) ⌝ }
+    ensures { λ r. ⌜ (r ≡ afterOf (now (ends .entry)) steps here)
+        × (now (resets .exit) ≡ resetsAfter (now (ends .entry)) (now (flags .entry)) here (now (resets .entry))) ⌝ }
+{
+    let s = here.step;
+    if !here.begun {
+        return Cursor {
+            past: here.past,
+            step: s,
+            guard: ends[s],
+            begun: true,
+        };
+    }
+    if here.guard < ends[s + 1] {
+        return Cursor {
+            past: here.past,
+            step: s,
+            guard: here.guard + 1,
+            begun: true,
+        };
+    }
+    reset_clocks(flags, s, here.past + 1, resets);
+    Cursor {
+        past: here.past + 1,
+        step: following(s, steps),
+        guard: here.guard,
+        begun: false,
+    }
 }
 
 // Whether a guard has two demands.

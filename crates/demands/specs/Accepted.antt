@@ -1,39 +1,29 @@
 -- What accepted bytes give to the code: a sound table by value, whose demands are those of the table written down.
 use mathlib.Core.Path.{_≡_, sym, _∙_, ap, subst}
 use mathlib.Core.List.{List}
-use Prim.Native.Nat.{ℕ, _*_, _≤_}
+use Prim.Native.Nat.{ℕ}
 use lib.IntN.{ℤ}
 use lib.ListN.{length}
 use Rattle.table.specs.declared.Read.the-variants.{Counted, Refused as Denied}
 use Rattle.table.specs.declared.Refusal.{Refusal}
 use Rattle.table.specs.declared.Table.{Table}
-use Rattle.table.specs.Step.{stepsOf, Good}
 use Rattle.runs.specs.Run.{copies}
 use Rattle.runs.specs.Demand.{demands, anyStarts, Clocks}
-use Rattle.constraints.specs.Demands.{demandsOf as tableDemands}
+use Rattle.constraints.specs.Demands.{demandsOf}
 use Rattle.wire.specs.Reading.{readOf}
 use Rattle.wire.specs.Listing.{listing, cycle}
-use Rattle.wire.specs.Fill.{tableOf}
-use Rattle.format.specs.Found.{Bytes}
+use Rattle.decode.specs.Fill.{tableOf}
+use Rattle.wire.specs.Records.{Bytes}
 use Rattle.format.specs.Fair.{legal-clocks}
 use Rattle.format.specs.Accepted.{Written, accepted-written}
-use Rattle.format.specs.Represent.{Represents}
-use Rattle.format.specs.Meaning.{table-represents}
+use Rattle.decode.specs.Represent.{Represents}
+use Rattle.decode.specs.Meaning.{table-represents}
+use Rattle.asking.specs.Rounds.{demandsIn}
+use Rattle.cells.specs.Lines.{cells}
+use Rattle.writing.specs.Ready.{Sound}
 use Rattle.demands.specs.declared.Listed.{Listed}
 use Rattle.demands.specs.declared.Listed.the-variants.{Refused}
-use Rattle.demands.specs.Lines.{cells}
-use Rattle.demands.specs.Listed.{demandsOf, answerOf, listedOf, unlessRefused, rowOf}
-
--- a good table by value, with guards on its own clocks
-pub record Sound (t : Table) : Type 0 where
-  pub good : Good t
-  pub clocks : Clocks (t .clocks) (stepsOf t)
-
--- and k rounds of it, which are some, and have few steps
-pub record Ready (t : Table) (k : ℕ) : Type 0 where
-  pub sound : Sound t
-  pub some : 1 ≤ k
-  pub few : k * t .steps ≤ 1024
+use Rattle.demands.specs.Listed.{answerOf, listedOf, unlessRefused, rowOf}
 
 -- ---- accepted bytes, and the table t that is filled in from them
 module _ (bytes : List ℕ) (small : Bytes bytes) {n L g : ℕ} (e : readOf bytes ≡ Counted n L g)
@@ -56,11 +46,11 @@ module _ (bytes : List ℕ) (small : Bytes bytes) {n L g : ℕ} (e : readOf byte
       }
 
   -- it has the demands of the table that is written down
-  pub table-demands : (k : ℕ) → tableDemands t k ≡ demandsOf bytes k
-  unfolding demandsOf
+  pub table-demands : (k : ℕ) → demandsOf t k ≡ demandsIn bytes k
+  unfolding demandsIn
   table-demands k = λ i. demands (stands .clocks i) (copies (stands .same i) k) anyStarts
 
-  listed-counted : (k room : ℕ) → answerOf (t .steps) k (length (tableDemands t k)) room ≡ listedOf bytes k room
+  listed-counted : (k room : ℕ) → answerOf (t .steps) k (length (demandsOf t k)) room ≡ listedOf bytes k room
   unfolding listedOf
   listed-counted k room =
       let steps : t .steps ≡ L = stands .steps ∙ sym (wrote .steps) in
@@ -68,7 +58,7 @@ module _ (bytes : List ℕ) (small : Bytes bytes) {n L g : ℕ} (e : readOf byte
 
   -- the answer and the row that are right for it are right
   pub rows-counted : {r : Listed} (k room : ℕ) (row : List ℤ) {row′ : List ℤ}
-      → r ≡ answerOf (t .steps) k (length (tableDemands t k)) room → row′ ≡ unlessRefused r (cells (tableDemands t k)) row
+      → r ≡ answerOf (t .steps) k (length (demandsOf t k)) room → row′ ≡ unlessRefused r (cells (demandsOf t k)) row
       → (r ≡ listedOf bytes k room) × (row′ ≡ rowOf bytes k room row)
   unfolding rowOf
   rows-counted k room row a b =
@@ -81,4 +71,4 @@ pub rows-refused : (bytes : List ℕ) (f : Refusal) (k room : ℕ) (row : List �
 unfolding rowOf listedOf
 rows-refused bytes f k room row e =
     let same : Refused f ≡ listedOf bytes k room = rw (listedOf, e) in
-    (same, ap (λ r. unlessRefused r (cells (demandsOf bytes k)) row) same)
+    (same, ap (λ r. unlessRefused r (cells (demandsIn bytes k)) row) same)

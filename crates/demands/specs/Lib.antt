@@ -1,12 +1,4 @@
-pub mod Lines
 pub mod Listed
 pub mod Accepted
 pub mod Answer
-pub mod Tally
-pub mod Writing
-pub mod Passed
-pub mod Ends
-pub mod Steps
-pub mod Pieces
-pub mod Fill
-pub mod Fit
+pub mod Told

@@ -10,7 +10,7 @@ use Rattle.runs.specs.declared.Demand.{Demand}
 use Rattle.runs.specs.Demand.{Within, Holds}
 use Rattle.runs.specs.Satisfies.{Satisfies}
 use Rattle.runs.specs.Tools.{Every, every-nil, every-cons, every-append}
-use Rattle.zones.specs.Choice.{both}
+use Rattle.basics.specs.Choice.{both}
 use Rattle.zones.specs.Bound.{Bound, at-most, less-than, Sat}
 use Rattle.zones.specs.Values.{sat-at-most, sat-less-than}
 use Rattle.zones.specs.Matrix.{Matrix, Solves, Flat}

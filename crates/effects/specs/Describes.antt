@@ -8,7 +8,7 @@ use native.Mathlib.Decide.{decLt}
 use native.Mathlib.Nat.{mul-pos}
 use Rattle.table.specs.Step.{Step, Fairs}
 use Rattle.runs.specs.Steps.{Config, Same, Steps, steps-same}
-use Rattle.zones.specs.Choice.{choose, choose-yes, choose-no}
+use Rattle.basics.specs.Choice.{choose, choose-yes, choose-no}
 use Rattle.zones.specs.Bound.{Bound, _⊑_, Sat}
 use Rattle.zones.specs.Values.{sat-unscale}
 use Rattle.zones.specs.Matrix.{Matrix, Solves, Closed, Flat}
@@ -70,12 +70,7 @@ tightest {σ} {M} d a b ha hb e h = tight 14 M (d .closed) a b ha hb e (d .flat)
         sat-unscale (t .scale) (t .shift) P (x a) (x b) e (t .scale-pos)
         (h (t .scale * P) (λ c. t .scale * x c + t .shift) (mul-pos (t .scale-pos) p) (t .run))
 
--- So any two effects of the same steps agree,
-pub unique : {σ : List Step} {A B : Matrix} → Describes σ A → Describes σ B
-    → (a b : ℕ) → a < 14 → b < 14 → A a b ⊑ B a b
-unique {B = B} dA dB a b ha hb = tightest dA a b ha hb (B a b) (λ P x p r. dB .sound P x p r a b ha hb)
-
--- and what has the same fourteen rows of fourteen entries is an effect too.
+-- What has the same fourteen rows of fourteen entries is an effect too.
 pub describes-same : {σ : List Step} {A B : Matrix} → ((a b : ℕ) → a < 14 → b < 14 → A a b ≡ B a b)
     → Describes σ A → Describes σ B
 describes-same e d = record {

@@ -8,7 +8,7 @@ use native.Mathlib.Decide.{decLe, decLt}
 use lib.ListN.{length}
 use Rattle.table.specs.Step.{Step, Fair, Fairs}
 use Rattle.runs.specs.Steps.{fairs-head, fairs-tail, steps-split}
-use Rattle.zones.specs.Choice.{both}
+use Rattle.basics.specs.Choice.{both}
 use Rattle.zones.specs.Bound.{Sat}
 use Rattle.zones.specs.Matrix.{Matrix, Solves, Solution}
 use Rattle.zones.specs.Closure.{Closure, closing}

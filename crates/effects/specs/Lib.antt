@@ -12,11 +12,13 @@ pub mod Effects
 -- its entries are in range
 pub mod Slide
 pub mod Range
+-- what a program that makes effects says of steps
+pub mod Tells
 -- rounds: runs from an allowed start, and where their number does not matter
 pub mod Begins
 pub mod Settle
 pub mod Rank
 pub mod Count
--- the count of rounds
-pub mod Climb
-pub mod Rounds
+-- the count, and that runs exist
+pub mod Known
+pub mod Starts

@@ -5,7 +5,7 @@ use Prim.Native.Nat.{ℕ, _+_, _-_, _≤_, _<_}
 use native.Mathlib.Omega.{arith}
 use native.Mathlib.Decide.{decLe, decLt}
 use Rattle.runs.specs.Steps.{Config, Same}
-use Rattle.zones.specs.Choice.{choose, choose-yes, choose-no, choose-cases, either}
+use Rattle.basics.specs.Choice.{choose, choose-yes, choose-no, choose-cases, either}
 use Rattle.zones.specs.Matrix.{Matrix}
 use Rattle.effects.specs.Describes.{past}
 

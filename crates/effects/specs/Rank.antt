@@ -4,7 +4,7 @@ use mathlib.Core.Logic.{_⊎_, inl, inr, ⊎-elim}
 use Prim.Native.Nat.{ℕ, zero, suc, _+_, _*_, _-_, _≤_, _<_}
 use native.Mathlib.Omega.{arith}
 use native.Mathlib.Decide.{decLt}
-use Rattle.runs.specs.Tools.{sum}
+use Rattle.basics.specs.Numbers.{sum}
 use Rattle.zones.specs.Bound.{Bound, none, some, _⊑_, dec⊑}
 use Rattle.zones.specs.Matrix.{Matrix}
 use Rattle.zones.specs.Weight.{Within}

@@ -9,7 +9,7 @@ use lib.ListN.{length}
 use Rattle.table.specs.Step.{Step, Fairs}
 use Rattle.runs.specs.Steps.{Config, Same, Move, Steps, stay, move, fairs-head, fairs-tail, Keeps, move-map}
 use Rattle.runs.specs.Replay.{Alike, met-fair}
-use Rattle.zones.specs.Choice.{choose, choose-yes, choose-no}
+use Rattle.basics.specs.Choice.{choose, choose-yes, choose-no}
 
 -- ---- A map of the times
 

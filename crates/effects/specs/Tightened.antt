@@ -4,7 +4,7 @@ use mathlib.Core.Logic.{_↔_}
 use Prim.Native.Nat.{ℕ, _<_}
 use native.Mathlib.Omega.{arith}
 use native.Mathlib.Decide.{ℕ-discrete}
-use Rattle.zones.specs.Choice.{choose, choose-yes, choose-cases}
+use Rattle.basics.specs.Choice.{choose, choose-yes, choose-cases}
 use Rattle.zones.specs.Bound.{none, weak-zero, Sat, _⊑_, ⊑-refl, ⊑-trans, least, least-is}
 use Rattle.zones.specs.Values.{sat-mono, sat-least}
 use Rattle.zones.specs.Matrix.{Matrix, Solves, Flat}

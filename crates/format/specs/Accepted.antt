@@ -2,19 +2,19 @@
 use mathlib.Core.Path.{_≡_, refl, sym, _∙_, ap, subst}
 use mathlib.Core.List.{List, [], _∷_, List·Memᴰ, List·Memᴰ·not-nil}
 use mathlib.Core.List.List·Memᴰ.{List·Memᴰ·head}
-use Prim.Native.Nat.{ℕ, suc, _≤_, _<_}
+use Prim.Native.Nat.{ℕ, suc, _≤_}
 use native.Mathlib.Omega.{arith}
-use native.Mathlib.Decide.{decLe}
 use lib.ListN.{length}
 use Rattle.table.specs.declared.Read.the-variants as read
 use Rattle.wire.specs.declared.Verdict.{Verdict}
 use Rattle.wire.specs.Records.{Record, bodySize, recordAt, recordsFrom, records}
 use Rattle.wire.specs.Reading.{byte, judgeOf, check, start, readOf}
-use Rattle.wire.specs.Laws.{onward, read-long, read-short}
+use Rattle.wire.specs.Laws.{onward, read-short, counted-short}
 use Rattle.wire.specs.Listing.{Listing, stepsIn, listing, guardsOf}
 use Rattle.format.specs.Encode.{encode, guardCount, Legal}
 use Rattle.format.specs.Shapes.{headTally, check-judged, refused-counted}
-use Rattle.format.specs.Found.{Bytes, Found, bytesIn, bytes-in, found}
+use Rattle.wire.specs.Records.{Bytes}
+use Rattle.format.specs.Located.{Located, bytesIn, bytes-in, located}
 use Rattle.format.specs.Judged.{Told, is-refused, is-head, is-entry, is-finish, is-end, judged}
 use Rattle.format.specs.Ending.{before, Ends, ends}
 
@@ -28,7 +28,7 @@ pub record Written (l : Listing) (bytes : List ℕ) (n L g : ℕ) : Type 0 where
 
 -- the head, and then the rest
 written-judged : (bytes : List ℕ) → length bytes ≤ 4096 → (r : Record) (rs : List Record) → r .place ≡ 0
-    → bytesIn (r ∷ rs) ≡ bytes → ((x : Record) → List·Memᴰ x rs → Found 1 x) → (n L g : ℕ)
+    → bytesIn (r ∷ rs) ≡ bytes → ((x : Record) → List·Memᴰ x rs → Located 1 x) → (n L g : ℕ)
     → {v : Verdict} → Told start r v → onward (length bytes) start rs v ≡ read.Counted n L g
     → Written (record { clocks = byte r 0; steps = stepsIn [] (r ∷ rs) }) bytes n L g
 unfolding bytesIn stepsIn encode before guardsOf
@@ -75,18 +75,14 @@ written-checked [] h short n L g e = refused-counted e
 written-checked (k ∷ rest) h short n L g e =
     let r = recordAt 0 k rest in
     let rs = recordsFrom (bodySize k) 1 rest in
-    written-judged (k ∷ rest) short r rs refl (bytes-in 0 0 (k ∷ rest)) (found (bodySize k) 1 rest (λ i. h (suc i))) n L g
-    (judged start r (found 0 0 (k ∷ rest) h r (List·Memᴰ·head refl)) (omega arith))
+    written-judged (k ∷ rest) short r rs refl (bytes-in 0 0 (k ∷ rest)) (located (bodySize k) 1 rest (λ i. h (suc i))) n L g
+    (judged start r (located 0 0 (k ∷ rest) h r (List·Memᴰ·head refl)) (omega arith))
     (sym (check-judged (length (k ∷ rest)) start r rs (judgeOf start r) refl) ∙ e)
 
 -- Accepted bytes write down the table that is read from them, and the counts of the answer are that table's. So with
 -- `read-encoded` exactly the encodings are accepted, with the guards and resets of a step in any order.
 pub accepted-written : (bytes : List ℕ) → Bytes bytes → (n L g : ℕ) → readOf bytes ≡ read.Counted n L g
     → Written (listing bytes) bytes n L g
-accepted-written bytes h n L g e = by-length (decLe (length bytes) 4096)
-  where
-    by-length : Dec (length bytes ≤ 4096) → Written (listing bytes) bytes n L g
-    by-length (yes short) = written-checked bytes h short n L g (sym (read-short bytes short) ∙ e)
-    by-length (no long) =
-        let longer : 4096 < length bytes = omega arith in
-        refused-counted (sym (read-long bytes longer) ∙ e)
+accepted-written bytes h n L g e =
+    let short = counted-short bytes n L g e in
+    written-checked bytes h short n L g (sym (read-short bytes short) ∙ e)

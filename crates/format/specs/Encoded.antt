@@ -16,7 +16,7 @@ use Rattle.table.specs.declared.Read.the-variants as read
 use Rattle.wire.specs.declared.Tally.{Tally}
 use Rattle.wire.specs.declared.Verdict.the-variants.{Next, Last}
 use Rattle.wire.specs.Records.{recordsFrom}
-use Rattle.wire.specs.Reading.{headed, guarded, zeroed, finished, ended, wholeOf, judgeOf, check, start, readOf}
+use Rattle.wire.specs.Reading.{headed, guarded, cleared, finished, ended, wholeOf, judgeOf, check, start, readOf}
 use Rattle.wire.specs.Laws.{read-short}
 use Rattle.wire.specs.Listing.{Entry, guard, reset, Listing, stepsIn, listing, guardsOf}
 use Rattle.format.specs.Encode.{
@@ -62,7 +62,7 @@ judge-head n low high = simp (le-leb 1 n low, le-leb n 6 high)
 module _ (t : Tally) (at : ℕ) (later : 0 < at) where
   judge-entry : (e : Entry) → LegalEntry (t .clocks) e → t .guards + weight e ≤ 64
       → judgeOf t (entryAt at e) ≡ Next (entered t e)
-  unfolding judgeOf wholeOf guarded zeroed
+  unfolding judgeOf wholeOf guarded cleared
   judge-entry (guard g) l room =
       simp (
         ne-eqb at 0 (λ z. omega arith),

@@ -39,7 +39,7 @@ use Rattle.format.specs.Shapes.{
   refused-counted,
   false-true,
 }
-use Rattle.format.specs.Found.{Found, bytesIn}
+use Rattle.format.specs.Located.{Located, bytesIn}
 use Rattle.format.specs.Judged.{Told, is-refused, is-head, is-entry, is-finish, is-end, judged}
 
 -- the bytes of entries, and then others
@@ -187,8 +187,8 @@ module _ (len n L g : ℕ) where
   ends-judged t begun r rs k later rest (is-end _ shape some none) q =
       subst (λ x. Ended t begun (x ∷ rs)) (sym shape) (ends-last k rs some none q)
 
-  -- Records found after the head and accepted write the rest of the steps down.
-  pub ends : (rs : List Record) → ((r : Record) → List·Memᴰ r rs → Found 1 r)
+  -- Records located after the head and accepted write the rest of the steps down.
+  pub ends : (rs : List Record) → ((r : Record) → List·Memᴰ r rs → Located 1 r)
       → (t : Tally) (begun : List Entry) → Kept t begun → check len t rs ≡ read.Counted n L g
       → Ends t begun (bytesIn rs) (stepsIn begun rs) n L g
   unfolding check

@@ -20,7 +20,7 @@ use Rattle.wire.specs.Reading.{
   agree,
   headed,
   guarded,
-  zeroed,
+  cleared,
   finished,
   ended,
   byte,
@@ -30,7 +30,8 @@ use Rattle.wire.specs.Reading.{
 }
 use Rattle.wire.specs.Listing.{Entry, guard, reset, relationOf, guardIn}
 use Rattle.format.specs.Encode.{relationCode, LegalEntry}
-use Rattle.format.specs.Found.{Bytes, Found}
+use Rattle.wire.specs.Records.{Bytes}
+use Rattle.format.specs.Located.{Located}
 use Rattle.format.specs.Shapes.{
   headWith,
   entryAt,
@@ -137,8 +138,8 @@ module _ (t : Tally) (r : Record) where
         (h .0, h .1, leb-true (constantOf r) 4000 d)
         (omega (arith, ltb-true (t .guards) 64 a))
 
-    reset-told : r .kind ≡ 3 → 0 < r .place → t .guards ≤ 64 → Told t r (zeroed t (r .place) (byte r 0))
-    unfolding zeroed listed
+    reset-told : r .kind ≡ 3 → 0 < r .place → t .guards ≤ 64 → Told t r (cleared t (r .place) (byte r 0))
+    unfolding cleared listed
     reset-told k later room =
         need-told (within 1 (byte r 0) (t .clocks)) _ _ λ e.
         let h = within-true 1 (byte r 0) (t .clocks) e in
@@ -173,8 +174,8 @@ module _ (t : Tally) (r : Record) where
         let n₄ = eqb-false (r .kind) 4 e₄ in
         end-told (omega arith) (later n₁)
 
-  -- what any record found in bytes was
-  pub judged : {at : ℕ} → Found at r → t .guards ≤ 64 → Told t r (judgeOf t r)
+  -- what any record located in bytes was
+  pub judged : {at : ℕ} → Located at r → t .guards ≤ 64 → Told t r (judgeOf t r)
   unfolding judgeOf
   judged f room =
       need-told (within 1 (r .kind) 5) _ _ λ a.

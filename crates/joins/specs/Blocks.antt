@@ -7,7 +7,7 @@ use native.Mathlib.Decide.{decLt, ℕ-discrete}
 use native.Mathlib.Numerals.{add-one}
 use lib.ListN.{length, getD, set, length-set}
 use lib.Seq.{getD-set-same, getD-set-other}
-use Rattle.zones.specs.Choice.{not-below-zero, min-cases}
+use Rattle.basics.specs.Choice.{not-below-zero, min-cases}
 
 -- The n codes of m from index `from` on, laid over the cells from index `to` on.
 unfoldable pub stripOf : ℕ → ℕ → List ℕ → ℕ → List ℕ → List ℕ

@@ -2,19 +2,17 @@
 use mathlib.Core.Path.{_≡_, refl, ap, sym, _∙_, subst}
 use mathlib.Core.Bool.{Bool}
 use mathlib.Core.List.{List, _++_}
-use Prim.Native.Nat.{ℕ, _+_, _^_, _≤_}
+use Prim.Native.Nat.{ℕ, _^_}
 use native.Mathlib.Omega.{arith}
-use lib.ListN.{length, length-append}
 use Rattle.table.specs.Step.{Step}
-use Rattle.runs.specs.Steps.{fairs-append}
 use Rattle.zones.specs.Matrix.{OthersSettled}
 use Rattle.zones.specs.Renaming.{renamed, renamed-fails, renamed-closure}
 use Rattle.zones.specs.Linear.{AllWithin}
 use Rattle.zones.specs.Cells.{matrix, Closing, answer, closeOf}
-use Rattle.zones.specs.Closing.{close-true, close-false}
+use Rattle.closing.specs.Closing.{close-true, close-false}
 use Rattle.effects.specs.Describes.{Describes, describes-same}
 use Rattle.effects.specs.Join.{Glued, joined, join-fails}
-use Rattle.joins.specs.Tells.{Tells, Sized, effect-within}
+use Rattle.effects.specs.Tells.{Tells, Told, Sized, effect-within}
 use Rattle.joins.specs.Swapping.{swap, swap-naming}
 use Rattle.joins.specs.Gluing.{glueOf, glued, glue-ranged, glue-glued, outer-same}
 use Rattle.joins.specs.Middle.{glue-settled}
@@ -28,19 +26,7 @@ pub join-is : (A B g z : List ℕ) (ok : Bool) → g ≡ glueOf A B → closeOf 
 unfolding joinOf
 join-is A B g z ok hg e = ap (closeOf 14 21) (sym hg) ∙ e
 
--- What an answer tells of a list of steps.
-abbrev Told : List Step → Closing → Type 0
-Told σ (answer ok l) = Tells σ ok l
-
 module _ {σ τ : List Step} (s : Sized σ) (t : Sized τ) where
-  -- One list of steps after the other.
-  pub sized-append : length σ + length τ ≤ 2 ^ 32 → Sized (σ ++ τ)
-  sized-append few = record {
-    fair = fairs-append σ τ (s .fair) (t .fair);
-    some = omega (arith, length-append σ τ, s .some);
-    few = omega (arith, length-append σ τ);
-  }
-
   -- Joining the effects of both tells the effect of one after the other.
   pub join-tells : (A B : List ℕ) → Describes σ (matrix A) → Describes τ (matrix B)
       → (ok : Bool) (z : List ℕ) → joinOf A B ≡ answer ok z → Tells (σ ++ τ) ok z

@@ -5,7 +5,7 @@ use mathlib.Core.Logic.{_⊎_, inl, inr, ⊎-elim}
 use mathlib.Core.List.{List}
 use Prim.Native.Nat.{ℕ, _+_, _-_, _≤_, _<_}
 use native.Mathlib.Omega.{arith}
-use Rattle.zones.specs.Choice.{not-below-zero}
+use Rattle.basics.specs.Choice.{not-below-zero}
 use Rattle.zones.specs.Bound.{Bound, _⊑_, _⊕_, weak-zero, ⊑-trans, ⊕-comm}
 use Rattle.zones.specs.Matrix.{Matrix, Settled, OthersSettled, Closed}
 use Rattle.zones.specs.Renaming.{settled-old}

@@ -6,7 +6,7 @@ use mathlib.Core.Logic.{_⊎_, inl, inr}
 use Prim.Native.Nat.{ℕ, _+_, _-_, _≤_, _<_}
 use native.Mathlib.Omega.{arith}
 use native.Mathlib.Decide.{decLt}
-use Rattle.zones.specs.Choice.{choose, choose-cases}
+use Rattle.basics.specs.Choice.{choose, choose-cases}
 use Rattle.zones.specs.Renaming.{Naming}
 
 -- The program's vertex for vertex a of the theory, and the other way round: the middle seven and the last seven swapped.

@@ -1,7 +1,5 @@
-pub mod Numbers
 pub mod Room
-pub mod Written
-pub mod Apart
+pub mod Row
 pub mod OneCount
 pub mod OnePlan
 pub mod PlanAgrees

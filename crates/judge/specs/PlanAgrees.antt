@@ -10,26 +10,17 @@ use Rattle.table.specs.declared.Read.{Read}
 use Rattle.table.specs.declared.Read.the-variants as read
 use Rattle.wire.specs.Reading.{readOf}
 use Rattle.wire.specs.Listing.{listing, cycle}
-use Rattle.format.specs.Found.{Bytes}
-use Rattle.format.specs.Accepted.{accepted-written}
-use Rattle.format.specs.Fair.{legal-clocks}
+use Rattle.wire.specs.Records.{Bytes}
+use Rattle.asking.specs.Rounds.{guards-on}
 use Rattle.runs.specs.Run.{copies}
-use Rattle.runs.specs.Demand.{Clocks}
-use Rattle.runs.specs.Copies.{clocks-copies}
 use Rattle.plan.specs.declared.Outcome.{Outcome}
 use Rattle.plan.specs.declared.Outcome.the-variants.{Found, Loop, Refused}
-use Rattle.plan.specs.declared.Admission.the-variants as admission
+use Rattle.asking.specs.declared.Admission.the-variants as admission
 use Rattle.plan.specs.Answer as plan
-use Rattle.judge.specs.Numbers.{planNumbers}
-use Rattle.judge.specs.Room.{answered, PlanTold}
+use Rattle.numbers.specs.Numbers.{planNumbers}
+use Rattle.numbers.specs.Answered.{answered}
+use Rattle.judge.specs.Room.{PlanTold}
 use Rattle.judge.specs.OnePlan.{Agree, refused, meets}
-
--- the guards of k rounds of accepted bytes are on their clocks
-guards-on : (bytes : List ℕ) → Bytes bytes → (k n L g : ℕ) → readOf bytes ≡ read.Counted n L g
-    → Clocks (listing bytes .clocks) (copies (cycle (listing bytes)) k)
-guards-on bytes h k n L g e =
-    clocks-copies (listing bytes .clocks) (cycle (listing bytes)) k
-    (legal-clocks (listing bytes) (accepted-written bytes h n L g e .legal))
 
 -- what the reader refuses
 asking-refused : (bytes : List ℕ) (k : ℕ) (r : plan.Rooms) (f : Refusal) → readOf bytes ≡ read.Refused f

@@ -1,26 +1,17 @@
 -- What the entries leave in the rooms lent to them.
 use mathlib.Core.Path.{_≡_}
 use mathlib.Core.Bool.{Bool, true, false, cond}
-use mathlib.Core.List.{List, _++_}
+use mathlib.Core.List.{List}
 use Prim.Native.Nat.{ℕ}
-use lib.Dec.{leb}
 use lib.IntN.{ℤ}
-use lib.ListN.{length, drop}
 use Rattle.wire.specs.Reading.{readOf}
 use Rattle.rounds.specs.declared.Count.{Count}
 use Rattle.rounds.specs.Answer as rounds
 use Rattle.plan.specs.declared.Outcome.{Outcome}
 use Rattle.plan.specs.Answer as plan
 use Rattle.demands.specs.Listed.{rowOf, rowRoom}
-use Rattle.judge.specs.Numbers.{countNumbers, planNumbers}
-
--- whether an answer room has the four places for an answer
-abbrev pub roomy : List ℕ → Bool
-roomy room = leb 4 (length room)
-
--- the answer room at exit: four numbers, and then the rest as it was; or all of it as it was, where it is short
-unfoldable pub answered : List ℕ → List ℕ → List ℕ
-answered room numbers = cond (roomy room) (numbers ++ drop 4 room) room
+use Rattle.numbers.specs.Numbers.{countNumbers, planNumbers}
+use Rattle.numbers.specs.Answered.{roomy, answered}
 
 -- the demands' row at exit, which is kept where the answer room is short
 unfoldable pub listedRow : List ℕ → List ℕ → ℕ → List ℤ → List ℤ

@@ -1,85 +1,21 @@
 // The four questions, for a terminal to call from C, where a slice is a pointer and a length. An answer is four numbers, written
 // to the first places of a lent answer room; its other places keep their contents. An answer room of fewer than four places gives
 // false, and then no room changes. A refusal is 01's number, its place, 0, 0; the first number of every other answer is 0.
-use demands::Listed;
-use plan::Outcome;
-use rounds::Count;
-use table::Read;
-use table::Refusal;
+use numbers::count_numbers;
+use numbers::demands_numbers;
+use numbers::plan_numbers;
+use numbers::put;
+use numbers::read_numbers;
 ghost use mathlib.Core.Path.{_≡_};
-ghost use Prim.Native.Nat.{_≤_};
-ghost use lib.ListN.{length};
 ghost use Rattle.wire.specs.Reading.{readOf};
 ghost use Rattle.plan.specs.Answer.{rooms};
 ghost use Rattle.demands.specs.Listed.{listedOf, rowRoom};
-ghost use Rattle.judge.specs.Numbers.{refusedNumbers, readNumbers, countNumbers, planNumbers, demandsNumbers};
-ghost use Rattle.judge.specs.Room.{roomy, answered, listedRow, RoundsTold, PlanTold};
+ghost use Rattle.numbers.specs.Numbers.{readNumbers, demandsNumbers};
+ghost use Rattle.numbers.specs.Answered.{roomy, answered};
+ghost use Rattle.judge.specs.Room.{listedRow, RoundsTold, PlanTold};
 
 // how many numbers an answer has
 const PLACES: usize = 4;
-
-// ---- the numbers of each answer
-fn refused_numbers(refusal: Refusal) -> [u64; 4]
-    ensures { λ r. ⌜ r ≡ refusedNumbers refusal ⌝ }
-{
-    let fault = refusal.fault;
-    let number = table::number(fault);
-    let place = refusal.place as u64;
-    [number, place, 0, 0]
-}
-
-fn read_numbers(answer: Read) -> [u64; 4]
-    ensures { λ r. ⌜ r ≡ readNumbers answer ⌝ }
-{
-    match answer {
-        Read::Counted {
-            clocks,
-            steps,
-            guards,
-        } => [0, clocks as u64, steps as u64, guards as u64],
-        Read::Refused(refusal) => refused_numbers(refusal),
-    }
-}
-
-fn count_numbers(answer: Count) -> [u64; 4]
-    ensures { λ r. ⌜ r ≡ countNumbers answer ⌝ }
-{
-    match answer {
-        Count::Finite(count) => [0, 0, count, 0],
-        Count::Endless => [0, 1, 0, 0],
-        Count::Refused(refusal) => refused_numbers(refusal),
-    }
-}
-
-fn plan_numbers(answer: Outcome) -> [u64; 4]
-    ensures { λ r. ⌜ r ≡ planNumbers answer ⌝ }
-{
-    match answer {
-        Outcome::Found(parts) => [0, 0, parts, 0],
-        Outcome::Loop(length) => [0, 1, length as u64, 0],
-        Outcome::Refused(refusal) => refused_numbers(refusal),
-    }
-}
-
-fn demands_numbers(answer: Listed) -> [u64; 4]
-    ensures { λ r. ⌜ r ≡ demandsNumbers answer ⌝ }
-{
-    match answer {
-        Listed::Written(count) => [0, count as u64, 0, 0],
-        Listed::Refused(refusal) => refused_numbers(refusal),
-    }
-}
-
-// Writes four numbers to the first places.
-fn put(room: &mut [u64], numbers: [u64; 4])
-    requires { ⌜ 4 ≤ length (now room) ⌝ }
-    ensures { λ _. ⌜ now (room .exit) ≡ answered (now (room .entry)) numbers ⌝ }
-{
-    room[0] = numbers[0];
-    room[1] = numbers[1];
-    room[2] = numbers[2];
-    room[3] = numbers[3];
-}
 
 // The question "read": 0, clocks, steps, guards (01: n, L, bounds).
 #[no_mangle]

@@ -1,18 +1,20 @@
 // Writes the demands of a table to lists of records that are too short, exact and longer, and prints them.
-use demands::Line;
+use demand_list::Line;
 use demands::Listed;
 use testkit::cells;
 use testkit::field;
 use testkit::number;
 use testkit::refusal;
 use testkit::signed;
+use testkit::table;
 use testkit::title;
 use testkit::word;
 ghost use mathlib.Core.Path.{_≡_};
 ghost use mathlib.Core.List.{_++_};
 ghost use Prim.Native.Nat.{_≤_};
 ghost use lib.ListN.{take, drop};
-ghost use Rattle.demands.specs.Listed.{listedOf, listRoom, rowOf, listOf};
+ghost use Rattle.demands.specs.Listed.{listedOf, rowOf};
+ghost use Rattle.demand_list.specs.Lines.{listRoom, listOf};
 
 // What the list entry answers, and the records as they then are.
 struct Done {
@@ -30,7 +32,7 @@ fn run(bytes: &[u8], k: u64, row: &mut [i64], lines: [Line; 13], n: usize) -> Do
         ≡ listOf (now (bytes .entry)) k (listRoom (now (row .entry)) (take n lines)) (take n lines) ++ drop n lines) ⌝ }
 {
     let mut list = lines;
-    let listed = demands::demand_list(bytes, k, row, &mut list[..n]);
+    let listed = demand_list::demand_list(bytes, k, row, &mut list[..n]);
     Done {
         listed,
         lines: list,
@@ -71,7 +73,7 @@ fn records(lines: [Line; 13]) {
 fn show(name: &[u8], row: &mut [i64], n: usize)
     requires { ⌜ n ≤ 13 ⌝ }
 {
-    let s2 = testkit::S2;
+    let tape = testkit::TABLES;
     let nine = Line {
         from: 9,
         to: 9,
@@ -79,7 +81,7 @@ fn show(name: &[u8], row: &mut [i64], n: usize)
         strict: 9,
     };
     let lines = [nine; 13];
-    let done = run(&s2, 3, &mut *row, lines, n);
+    let done = run(table(&tape, 2), 3, &mut *row, lines, n);
     let listed = done.listed;
     let list = done.lines;
     title(name);

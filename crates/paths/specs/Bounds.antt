@@ -1,14 +1,14 @@
 -- Sizes are kept, and times grow by at most the largest gain a check, so that sums do not wrap.
 use mathlib.Core.Path.{_≡_, refl, _∙_}
 use mathlib.Core.Bool.{Bool, true, false, cond}
-use mathlib.Core.List.{List, [], _∷_, _++_, List·Memᴰ}
-use mathlib.Core.List.{List·Memᴰ·head, List·Memᴰ·tail, Memᴰ·append-left, Memᴰ·append-right}
+use mathlib.Core.List.{List, [], _∷_, List·Memᴰ}
+use mathlib.Core.List.{List·Memᴰ·head, List·Memᴰ·tail}
 use Prim.Native.Nat.{ℕ, zero, suc, _+_, _*_, _≤_, _<_, _^_}
-use native.Mathlib.Nat.{suc-mul, zero-mul, mul-le-mul-right}
+use native.Mathlib.Nat.{suc-mul, zero-mul}
 use native.Mathlib.Omega.{arith}
-use lib.ListN.{length, length-set, length-append}
+use lib.ListN.{length, length-set}
 use Rattle.paths.specs.Places.{at, set-under}
-use Rattle.paths.specs.Constraint.{Constraint, Fits, fits-tail, fits-left}
+use Rattle.paths.specs.Constraint.{Constraint, Fits, fits-tail}
 use Rattle.paths.specs.State.{State, lowOf, raiseOf, relaxOf, passOf, passesOf, Below}
 
 -- ---- sizes

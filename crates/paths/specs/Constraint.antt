@@ -1,13 +1,14 @@
--- Difference constraints, their solutions, and the negative cycles that refute every solution.
-use mathlib.Core.Path.{_≡_, refl, ap, sym, _∙_}
+-- Difference constraints, their solutions, and negative cycles.
+use mathlib.Core.Path.{_≡_, refl, sym, _∙_}
 use mathlib.Core.Logic.{_≢_}
-use mathlib.Core.List.{List, [], _∷_, _++_, List·Memᴰ}
-use mathlib.Core.List.{Memᴰ·append-left, List·Memᴰ·head, List·Memᴰ·tail, List·Memᴰ·not-nil}
+use mathlib.Core.List.{List, [], _∷_, List·Memᴰ}
+use mathlib.Core.List.{List·Memᴰ·head, List·Memᴰ·tail, List·Memᴰ·not-nil}
 use Prim.Native.Nat.{ℕ, zero, suc, _+_, _≤_, _<_}
 use native.Mathlib.Nat.{not-suc-le-zero, le-of-suc-le-suc}
 use native.Mathlib.Omega.{arith}
 use native.Mathlib.Decide.{decLt}
 use lib.ListN.{getD, length}
+use Rattle.basics.specs.Numbers.{sum}
 use Rattle.paths.specs.Places.{at}
 
 -- A difference constraint (a demand, in parts): the time of `to` plus gain is at most the time of `from` plus loss.
@@ -51,15 +52,6 @@ pub fits-tail : (N : ℕ) (c : Constraint) (cs : List Constraint) → Fits N (c 
 fits-tail N c cs f =
     record { from = λ d m. f .from d (List·Memᴰ·tail m); to = λ d m. f .to d (List·Memᴰ·tail m) }
 
-pub fits-left : (N : ℕ) (xs ys : List Constraint) → Fits N (xs ++ ys) → Fits N xs
-fits-left N xs ys f =
-    record { from = λ d m. f .from d (Memᴰ·append-left ys m); to = λ d m. f .to d (Memᴰ·append-left ys m) }
-
--- f 0 + f 1 + .. + f (n - 1)
-unfoldable pub sum : (ℕ → ℕ) → ℕ → ℕ
-sum f zero = 0
-sum f (suc n) = sum f n + f n
-
 -- A negative cycle (a loop): distinct vertices, a constraint from each to the next and from the last to the first,
 -- and the losses sum up to less than the gains.
 pub record NegativeCycle (cs : List Constraint) (vs : List ℕ) : Type 0 where
@@ -96,19 +88,3 @@ module _ (cs : List Constraint) (vs : List ℕ) (c : NegativeCycle cs vs) where
       go (no h) =
           let one : 1 ≡ length vs = omega (arith, cycle-some) in
           absurd (plain (c .by 0) (c .member 0 cycle-some) (c .from 0 cycle-some ∙ sym (c .close 0 one)))
-
-  -- A negative cycle refutes every solution.
-  pub cycle-refutes : (x : ℕ → ℕ) → All cs x → ⊥
-  unfolding sum
-  cycle-refutes x all = go (length vs) refl (c .negative)
-    where
-      edge : (k : ℕ) → k < length vs → x (c .by k .to) + c .by k .gain ≤ x (at vs k) + c .by k .loss
-      edge k l = omega (arith, all (c .by k) (c .member k l), ap x (c .from k l))
-
-      down : (k : ℕ) → k < length vs → x (at vs k) + gains k ≤ x (at vs 0) + losses k
-      down zero l = omega arith
-      down (suc k) l = omega (arith, down k (omega arith), edge k (omega arith), ap x (c .to k l))
-
-      go : (n : ℕ) → n ≡ length vs → losses n < gains n → ⊥
-      go zero e h = omega arith
-      go (suc k) e h = omega (arith, down k (omega arith), edge k (omega arith), ap x (c .close k e))

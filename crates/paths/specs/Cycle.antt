@@ -1,4 +1,4 @@
--- Cycles of parents: each is a negative cycle, and a raise in pass number N leads to one.
+-- Cycles of parents: each is a negative cycle, and a raise in the N-th pass leads to one.
 use mathlib.Core.Path.{_≡_, sym, ap, _∙_, subst}
 use mathlib.Core.Logic.{_⊎_, inl, inr, _≢_}
 use mathlib.Core.List.{List}
@@ -7,8 +7,10 @@ use native.Mathlib.Nat.{suc-mul, zero-mul, mul-le-mul-right}
 use native.Mathlib.Omega.{arith}
 use lib.ListN.{length}
 use Rattle.paths.specs.Walk.{pigeon, Twice, iter, iter-add, iter-round, Among, among, Ring}
-use Rattle.paths.specs.Places.{at, tab, length-tab, at-tab}
-use Rattle.paths.specs.Constraint.{Constraint, Fits, sum, NegativeCycle}
+use Rattle.basics.specs.Numbers.{sum}
+use Rattle.basics.specs.Tab.{tab, length-tab, getD-tab}
+use Rattle.paths.specs.Places.{at}
+use Rattle.paths.specs.Constraint.{Constraint, Fits, NegativeCycle}
 use Rattle.paths.specs.State.{State}
 use Rattle.paths.specs.Invariant.{Edge, Inv}
 
@@ -105,9 +107,9 @@ module _ (N : ℕ) (cs : List Constraint) (fits : Fits N cs) (n : ℕ) (s : Stat
   parents-negative u m o r = record {
     by = λ k. edge k .by;
     member = λ k h. edge k .member;
-    from = λ k h. edge k .from ∙ sym (at-tab x m k (omega (arith, length-tab x m)));
-    to = λ k h. sym (edge k .parent) ∙ sym (at-tab x m (suc k) (omega (arith, length-tab x m)));
-    close = λ k h. sym (edge k .parent) ∙ round k (h ∙ length-tab x m) ∙ sym (at-tab x m 0 (r .pos));
+    from = λ k h. edge k .from ∙ sym (getD-tab x m k (omega (arith, length-tab x m)));
+    to = λ k h. sym (edge k .parent) ∙ sym (getD-tab x m (suc k) (omega (arith, length-tab x m)));
+    close = λ k h. sym (edge k .parent) ∙ round k (h ∙ length-tab x m) ∙ sym (getD-tab x m 0 (r .pos));
     distinct = λ i j h l. apart i j h (omega (arith, length-tab x m));
     negative = subst (λ (k : ℕ). sum loss k < sum gain k) (sym (length-tab x m)) heavy;
   }
@@ -128,7 +130,7 @@ module _ (N : ℕ) (cs : List Constraint) (fits : Fits N cs) (n : ℕ) (s : Stat
       round k h = ap x h ∙ r .back
 
       apart : (i j : ℕ) → i < j → j < m → at (tab x m) i ≢ at (tab x m) j
-      apart i j h l e = r .apart i j h l (sym (at-tab x m i (omega arith)) ∙ e ∙ at-tab x m j l)
+      apart i j h l e = r .apart i j h l (sym (getD-tab x m i (omega arith)) ∙ e ∙ getD-tab x m j l)
 
       heavy : sum loss m < sum gain m
       heavy =
@@ -140,35 +142,35 @@ module _ (N : ℕ) (cs : List Constraint) (fits : Fits N cs) (n : ℕ) (s : Stat
           (ap (at (s .time)) (r .back))
           (ap (at (s .stamp)) (r .back))
 
-  -- ---- a vertex v with a stamp of pass number N, or a later one
-  module _ (v : ℕ) (below : v < N) (late : N * length cs < at (s .stamp) v) where
+  -- ---- a vertex v with a stamp of the N-th pass, or a later one
+  module _ (v : ℕ) (below : v < N) (late : N * length cs < at (s .stamp) v + length cs) where
     abbrev w : ℕ → ℕ
     w k = iter p k v
 
     record High (i : ℕ) : Type 0 where
       inside : w i < N
-      stamp : N * length cs < at (s .stamp) (w i) + i * length cs
+      stamp : N * length cs < at (s .stamp) (w i) + suc i * length cs
 
     -- each step goes back by at most one pass
     high : (i : ℕ) → i ≤ N → High i
     unfolding iter
-    high zero h = record { inside = below; stamp = omega (arith, zero-mul (length cs)) }
+    high zero h = record { inside = below; stamp = omega (arith, suc-mul 0 (length cs), zero-mul (length cs)) }
     high (suc i) h = go (high i (omega arith))
       where
         go : High i → High (suc i)
         go a = more (inv .edges (w i) (a .inside) stamped)
           where
             stamped : 0 < at (s .stamp) (w i)
-            stamped = omega (arith, a .stamp, mul-le-mul-right (length cs) h, suc-mul i (length cs))
+            stamped = omega (arith, a .stamp, mul-le-mul-right (length cs) h)
 
             more : Edge cs s (w i) → High (suc i)
             more d = record {
               inside = rw (d .parent) (fits .to (d .by) (d .member));
-              stamp = rw (d .parent) (omega (arith, a .stamp, d .near, suc-mul i (length cs)));
+              stamp = rw (d .parent) (omega (arith, a .stamp, d .near, suc-mul (suc i) (length cs)));
             }
 
-    early : (i : ℕ) → i ≤ N → 0 < at (s .stamp) (w i)
-    early i h = omega (arith, high i h .stamp, mul-le-mul-right (length cs) h)
+    early : (i : ℕ) → i < N → 0 < at (s .stamp) (w i)
+    early i h = omega (arith, high i (omega arith) .stamp, mul-le-mul-right (length cs) h)
 
     twice : Twice w N
     twice = pigeon N w (λ i h. high i h .inside)

@@ -6,6 +6,7 @@ pub mod Bounds
 pub mod Relaxed
 pub mod Invariant
 pub mod Pass
+pub mod Rises
 pub mod Cycle
 pub mod Search
 pub mod Sweep

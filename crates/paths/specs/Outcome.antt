@@ -1,20 +1,21 @@
 -- What passes from unstamped times tell: a pass that raised nothing has found the least solution above the start,
--- a cycle of parents refutes every solution, and a raise in pass number N leads to such a cycle.
+-- a cycle of parents is a negative cycle, and a raise in the N-th pass leads to such a cycle.
 use mathlib.Core.Path.{_≡_, sym, subst}
 use mathlib.Core.Bool.{true, false}
 use mathlib.Core.List.{List}
-use Prim.Native.Nat.{ℕ, _+_, _*_, _≤_, _<_}
-use native.Mathlib.Nat.{mul-le-mul-right}
+use Prim.Native.Nat.{ℕ, suc, _+_, _*_, _≤_, _<_}
+use native.Mathlib.Nat.{suc-mul, mul-le-mul-right}
 use native.Mathlib.Omega.{arith}
 use lib.ListN.{length, take}
 use Rattle.paths.specs.Walk.{iter, Ring, ring}
-use Rattle.paths.specs.Places.{at, tab}
-use Rattle.paths.specs.Constraint.{Constraint, All, NegativeCycle, cycle-refutes}
+use Rattle.basics.specs.Tab.{tab}
+use Rattle.paths.specs.Places.{at}
+use Rattle.paths.specs.Constraint.{Constraint, All, NegativeCycle}
 use Rattle.paths.specs.State.{State, passOf, hitsOf, passesOf, passes-more, Below}
 use Rattle.paths.specs.Bounds.{Room, room-kept, passes-size}
 use Rattle.paths.specs.Invariant.{Inv}
 use Rattle.paths.specs.Pass.{Start, settled, passes-least, loud, passes-inv}
-use Rattle.paths.specs.Cycle.{Links, OnCycle, inv-links, parents-negative, late-stamped, late-inside, late-cycle}
+use Rattle.paths.specs.Cycle.{Links, OnCycle, inv-links, parents-negative, late-cycle}
 use Rattle.paths.specs.Code.{Wrote, wrote-first}
 
 module _ (N : ℕ) (cs : List Constraint) (s : State) (start : Start N cs s) (n : ℕ) where
@@ -54,22 +55,8 @@ module _ (N : ℕ) (cs : List Constraint) (s : State) (start : Start N cs s) (n 
   outcome-wrote u m out out′ o w =
       subst (NegativeCycle cs) (sym (wrote-first (r .parent) u out out′ m w)) (outcome-cycle u m o (w .ring))
 
-  -- It refutes every solution.
-  pub outcome-refuted : (u : ℕ) → OnCycle N (r .parent) (r .stamp) u → (x : ℕ → ℕ) → All cs x → ⊥
-  outcome-refuted u o x all = go (ring (at (r .parent)) u (o .turn) (o .pos) (o .back))
-    where
-      go : (m : ℕ) × Ring (at (r .parent)) u m → ⊥
-      go g = cycle-refutes cs _ (outcome-cycle u (g .0) o (g .1)) x all
-
-  -- The walk of parents from a vertex with a stamp of pass number N, or a later one, stays on stamped vertices,
-  -- and N steps of it lead to a cycle.
-  module _ (v : ℕ) (below : v < N) (late : N * E < at (r .stamp) v) where
-    pub outcome-stamped : (k : ℕ) → 0 < at (r .stamp) (iter (at (r .parent)) k v)
-    outcome-stamped = late-stamped N cs (start .fits) (n * E) r inv v below late
-
-    pub outcome-inside : (k : ℕ) → iter (at (r .parent)) k v < N
-    outcome-inside = late-inside N cs (start .fits) (n * E) r inv v below late
-
+  -- N steps of the walk of parents from a vertex with a stamp of the N-th pass, or a later one, lead to a cycle.
+  module _ (v : ℕ) (below : v < N) (late : N * E < at (r .stamp) v + E) where
     pub outcome-ends : OnCycle N (r .parent) (r .stamp) (iter (at (r .parent)) N v)
     outcome-ends = late-cycle N cs (start .fits) (n * E) r inv v below late
 
@@ -83,12 +70,12 @@ module _ (N : ℕ) (cs : List Constraint) (s : State) (start : Start N cs s) (n 
           → (v : ℕ) × (v < N) × (n * E < at (passOf cs (n * E + 1) r .stamp) v)
       go l = (l .0, l .1, omega (arith, l .2))
 
--- If pass number n, N or a later one, raises something, then there is a cycle of parents.
-pub outcome-must : (N : ℕ) (cs : List Constraint) (s : State) → Start N cs s → (n : ℕ) → N ≤ n
+-- If the N-th pass, or a later one, raises something after n others, then there is a cycle of parents.
+pub outcome-must : (N : ℕ) (cs : List Constraint) (s : State) → Start N cs s → (n : ℕ) → N ≤ suc n
     → hitsOf cs (n * length cs + 1) (passesOf cs n s) ≡ true
     → (u : ℕ) × OnCycle N (passesOf cs (n + 1) s .parent) (passesOf cs (n + 1) s .stamp) u
 outcome-must N cs s start n h p = go (outcome-late N cs s start n p)
   where
     go : (v : ℕ) × (v < N) × (n * length cs < at (passesOf cs (n + 1) s .stamp) v)
         → (u : ℕ) × OnCycle N (passesOf cs (n + 1) s .parent) (passesOf cs (n + 1) s .stamp) u
-    go l = (_, outcome-ends N cs s start (n + 1) (l .0) (l .1) (omega (arith, l .2, mul-le-mul-right (length cs) h)))
+    go l = (_, outcome-ends N cs s start (n + 1) (l .0) (l .1) (omega (arith, l .2, mul-le-mul-right (length cs) h, suc-mul n (length cs))))

@@ -1,22 +1,17 @@
 -- The places of a list of numbers, and a list whose first places are written.
 use mathlib.Core.Path.{_≡_, refl, sym, ap, _∙_}
-use mathlib.Core.List.{List, [], _∷_, _++_}
-use Prim.Native.Nat.{ℕ, zero, suc, _+_, _-_, _≤_, _<_}
-use native.Mathlib.Nat.{not-suc-le-zero}
+use mathlib.Core.List.{List, _++_}
+use Prim.Native.Nat.{ℕ, suc, _+_, _-_, _≤_, _<_}
 use native.Mathlib.Omega.{arith}
-use native.Mathlib.Decide.{decLt, ℕ-discrete}
+use native.Mathlib.Decide.{ℕ-discrete}
 use lib.ListN.{getD, length, set, take, drop, length-append, length-drop, List·getD-append}
-use lib.Seq.{getD-set-same, getD-set-other, getD-at, getD-append-add, getD-drop, set-at}
+use lib.Seq.{getD-set-same, getD-set-other, getD-append-add, getD-drop, set-at}
 use lib.Seq.{take-at, drop-at, drop-cons, drop-set-lt, append-snoc}
+use Rattle.basics.specs.Tab.{tab, length-tab, getD-tab}
 
 -- What stands at place k, and 0 past the end.
 abbrev pub at : List ℕ → ℕ → ℕ
 at l k = getD l k 0
-
--- The list f 0, f 1, .., f (n - 1).
-unfoldable pub tab : (ℕ → ℕ) → ℕ → List ℕ
-tab f zero = []
-tab f (suc n) = tab f n ++ (f n ∷ [])
 
 -- l with f 0, .., f (n - 1) in its first n places, the rest kept.
 unfoldable pub written : (ℕ → ℕ) → ℕ → List ℕ → List ℕ
@@ -27,22 +22,6 @@ abbrev pub filled : ℕ → ℕ → List ℕ → List ℕ
 filled v n l = written (λ k. v) n l
 
 -- ---- lengths and places
-pub length-tab : (f : ℕ → ℕ) (n : ℕ) → length (tab f n) ≡ n
-unfolding tab
-length-tab f zero = refl
-length-tab f (suc n) = length-append (tab f n) (f n ∷ []) ∙ omega (arith, length-tab f n)
-
-pub at-tab : (f : ℕ → ℕ) (n k : ℕ) → k < n → at (tab f n) k ≡ f k
-unfolding tab
-at-tab f zero k h = absurd (not-suc-le-zero h)
-at-tab f (suc n) k h = go (at-tab f n k) (decLt k n)
-  where
-    go : (k < n → at (tab f n) k ≡ f k) → Dec (k < n) → at (tab f n ++ (f n ∷ [])) k ≡ f k
-    go ih (yes l) = List·getD-append (tab f n) (f n ∷ []) 0 k (omega (arith, length-tab f n)) ∙ ih l
-    go ih (no l) =
-        let e : k ≡ n = omega arith in
-        getD-at (tab f n) (f n) [] 0 k (length-tab f n ∙ sym e) ∙ ap f (sym e)
-
 pub length-written : (f : ℕ → ℕ) (n : ℕ) (l : List ℕ) → n ≤ length l → length (written f n l) ≡ length l
 unfolding written
 length-written f n l h =
@@ -50,7 +29,7 @@ length-written f n l h =
 
 pub at-written : (f : ℕ → ℕ) (n : ℕ) (l : List ℕ) (k : ℕ) → k < n → at (written f n l) k ≡ f k
 unfolding written
-at-written f n l k h = List·getD-append (tab f n) (drop n l) 0 k (omega (arith, length-tab f n)) ∙ at-tab f n k h
+at-written f n l k h = List·getD-append (tab f n) (drop n l) 0 k (omega (arith, length-tab f n)) ∙ getD-tab f n k h
 
 pub at-written-rest : (f : ℕ → ℕ) (n : ℕ) (l : List ℕ) (k : ℕ) → n ≤ k → at (written f n l) k ≡ at l k
 unfolding written

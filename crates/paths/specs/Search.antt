@@ -6,7 +6,8 @@ use native.Mathlib.Omega.{arith}
 use native.Mathlib.Decide.{decLt}
 use lib.ListN.{length, set, drop, length-set}
 use lib.Seq.{drop-set-lt}
-use Rattle.paths.specs.Places.{at, tab, written, filled, length-written, at-written, drop-written}
+use Rattle.basics.specs.Tab.{tab}
+use Rattle.paths.specs.Places.{at, written, filled, length-written, at-written, drop-written}
 use Rattle.paths.specs.Cycle.{Links, OnCycle}
 
 -- What a search asks: parents of stamped vertices below n are below n, and there is a mark for each vertex.
@@ -15,13 +16,13 @@ pub record Searchable (n : ℕ) (p st marks : List ℕ) : Type 0 where
   pub room : n ≤ length marks
 
 -- An answer r below n is a vertex on a cycle of parents, and the answer n says that there is no such cycle.
-pub record Found (n : ℕ) (p st : List ℕ) (r : ℕ) : Type 0 where
+pub record Vertex (n : ℕ) (p st : List ℕ) (r : ℕ) : Type 0 where
   pub within : r ≤ n
   pub cycle : r < n → OnCycle n p st r
   pub none : r ≡ n → (u : ℕ) → ¬ OnCycle n p st u
 
 -- Where there is a cycle, one is found.
-pub found-some : (n : ℕ) (p st : List ℕ) (r u : ℕ) → Found n p st r → OnCycle n p st u → r < n
+pub found-some : (n : ℕ) (p st : List ℕ) (r u : ℕ) → Vertex n p st r → OnCycle n p st u → r < n
 found-some n p st r u f o = go (decLt r n)
   where
     go : Dec (r < n) → r < n
@@ -30,7 +31,7 @@ found-some n p st r u f o = go (decLt r n)
 
 -- What a search gives: its answer, and marks of which the first n are 0 and the rest is kept.
 pub record Search (n : ℕ) (p st marks marks′ : List ℕ) (r : ℕ) : Type 0 where
-  pub found : Found n p st r
+  pub found : Vertex n p st r
   pub cleared : marks′ ≡ filled 0 n marks
 
 -- ---- marks: only the first n places change
@@ -72,5 +73,5 @@ unmarked n p st l l′ s e = record {
 
 -- What these walks give.
 pub record Met (n : ℕ) (p st marks marks′ : List ℕ) (r : ℕ) : Type 0 where
-  pub found : Found n p st r
+  pub found : Vertex n p st r
   pub marked : Marked n marks marks′

@@ -1,6 +1,6 @@
 -- Times, parents and stamps as lists; one check of a constraint, and the checks of a list of constraints in turn.
 use mathlib.Core.Path.{_≡_, refl, sym, ap, _∙_}
-use mathlib.Core.Bool.{Bool, true, false, cond, _||_, or-assoc, or-false}
+use mathlib.Core.Bool.{Bool, true, false, cond, _||_, or-assoc}
 use mathlib.Core.List.{List, [], _∷_, _++_}
 use Prim.Native.Nat.{ℕ, zero, suc, _+_, _*_, _-_, _≤_, _<_}
 use native.Mathlib.Numerals.{add-one}
@@ -98,17 +98,6 @@ hits-append (c ∷ xs) ys q s =
     ∙ ap (λ (k : ℕ). hitsOf xs (suc q) (relaxOf c q s) || hitsOf ys k (passOf xs (suc q) (relaxOf c q s)))
     (omega arith))
     ∙ sym (or-assoc (lowOf c (s .time)) _ _)
-
-pub pass-snoc : (xs : List Constraint) (c : Constraint) (q : ℕ) (s : State)
-    → passOf (xs ++ (c ∷ [])) q s ≡ relaxOf c (q + length xs) (passOf xs q s)
-unfolding passOf
-pass-snoc xs c q s = pass-append xs (c ∷ []) q s
-
-pub hits-snoc : (xs : List Constraint) (c : Constraint) (q : ℕ) (s : State)
-    → hitsOf (xs ++ (c ∷ [])) q s ≡ (hitsOf xs q s || lowOf c (passOf xs q s .time))
-unfolding hitsOf
-hits-snoc xs c q s =
-    hits-append xs (c ∷ []) q s ∙ ap (λ (b : Bool). hitsOf xs q s || b) (or-false (lowOf c (passOf xs q s .time)))
 
 pub passes-none : (cs : List Constraint) (s : State) → passesOf cs 0 s ≡ s
 unfolding passesOf

@@ -1,23 +1,20 @@
 -- The answer to the question "plan for k", and what it writes.
 use mathlib.Core.Path.{_≡_}
-use mathlib.Core.Bool.{Bool, cond, _&&_}
 use mathlib.Core.List.{List}
-use Prim.Native.Nat.{ℕ, zero, suc, _+_, _*_, _-_, _≤_}
-use lib.Dec.{leb}
+use Prim.Native.Nat.{ℕ, zero, suc, _+_, _-_, _≤_}
 use lib.ListN.{length, getD, take, drop}
 use Rattle.table.specs.Step.{Step}
-use Rattle.table.specs.declared.Fault.{Fault}
 use Rattle.table.specs.declared.Fault.the-variants as fault
 use Rattle.table.specs.declared.Read.the-variants.{Counted, Refused}
 use Rattle.wire.specs.Reading.{readOf}
-use Rattle.wire.specs.Listing.{listing, cycle}
-use Rattle.runs.specs.Run.{copies}
 use Rattle.runs.specs.Demand.{anyStarts, demands}
 use Rattle.runs.specs.Loop as runs
 use Rattle.plan.specs.declared.Outcome.{Outcome}
 use Rattle.plan.specs.declared.Outcome.the-variants as outcome
-use Rattle.plan.specs.declared.Admission.{Admission}
-use Rattle.plan.specs.declared.Admission.the-variants as admission
+use Rattle.asking.specs.declared.Admission.{Admission}
+use Rattle.asking.specs.declared.Admission.the-variants as admission
+use Rattle.asking.specs.Admission.{admitOf}
+use Rattle.asking.specs.Rounds.{clocksOf, roundsIn}
 use Rattle.plan.specs.Planned.{Planned}
 
 -- the contents of the three rooms lent
@@ -45,7 +42,7 @@ pub record KeptFrom (n : ℕ) (l l′ : List ℕ) : Type 0 where
 
 -- ---- the two answers, for steps σ with clocks 1 to n
 -- A run exists: P = K + n + 1, and the plan in P parts to a tick is in the first places of two rooms.
-pub record Found (n : ℕ) (σ : List Step) (r r′ : Rooms) (P : ℕ) : Type 0 where
+pub record Planning (n : ℕ) (σ : List Step) (r r′ : Rooms) (P : ℕ) : Type 0 where
   pub parts : P ≡ length σ + n + 1
   pub planned : Planned P n σ anyStarts (momentsIn (r′ .times)) (startsIn (r′ .starts))
   pub times : KeptFrom (length σ) (r .times) (r′ .times)
@@ -62,24 +59,12 @@ pub record Refuted (n : ℕ) (σ : List Step) (r r′ : Rooms) (m : ℕ) : Type 
 
 -- one of the two
 abbrev pub Answered : ℕ → List Step → Rooms → Rooms → Outcome → Type 0
-Answered n σ r r′ (outcome.Found P) = Found n σ r r′ P
+Answered n σ r r′ (outcome.Found P) = Planning n σ r r′ P
 Answered n σ r r′ (outcome.Loop m) = Refuted n σ r r′ m
 Answered n σ r r′ (outcome.Refused f) = ⊥
 
 -- ---- what is refused
--- refused for a fault, with place 0, unless the test holds
-abbrev pub need : Bool → Fault → Admission → Admission
-need b f rest = cond b rest (admission.Refused (record { fault = f; place = 0 }))
-
--- The tests after the table, in 01's order: n clocks, L steps, k rounds, and the lengths of the three rooms.
-unfoldable pub admitOf : ℕ → ℕ → ℕ → ℕ → ℕ → ℕ → Admission
-admitOf n L k times starts loop =
-    need (leb 1 k && leb (k * L) 1024) fault.Rounds
-    (need (leb (k * L) times) fault.Times
-    (need (leb n starts) fault.Starts
-    (need (leb (k * L + n + 1) loop) fault.Loop
-    admission.Accepted)))
-
+-- the tests after the table: n clocks, L steps, k rounds
 abbrev pub admitRooms : ℕ → ℕ → ℕ → Rooms → Admission
 admitRooms n L k r = admitOf n L k (length (r .times)) (length (r .starts)) (length (r .loop))
 
@@ -94,4 +79,4 @@ Meets admission.Accepted n σ r r′ a = Answered n σ r r′ a
 
 -- The answer to "plan for k", of the table that the bytes write down: the rooms hold r before and r′ after.
 pub record Answers (bytes : List ℕ) (k : ℕ) (r r′ : Rooms) (a : Outcome) : Type 0 where
-  pub answers : Meets (askingOf bytes k r) (listing bytes .clocks) (copies (cycle (listing bytes)) k) r r′ a
+  pub answers : Meets (askingOf bytes k r) (clocksOf bytes) (roundsIn bytes k) r r′ a

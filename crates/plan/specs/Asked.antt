@@ -6,7 +6,8 @@ use mathlib.Core.List.{List, [], _∷_, map}
 use Prim.Native.Nat.{ℕ, zero, suc, _+_, _≤_, _<_}
 use native.Mathlib.Omega.{arith}
 use lib.ListN.{length}
-use Rattle.table.specs.Step.{Step, Fairs}
+use Rattle.table.specs.Step.{Step, Fairs, stepsOf}
+use Rattle.table.specs.declared.Table.{Table}
 use Rattle.table.specs.declared.Guard.{Guard}
 use Rattle.table.specs.declared.Relation.{Relation}
 use Rattle.table.specs.declared.Relation.the-variants.{Under, AtMost, Exactly, AtLeast, Over}
@@ -17,6 +18,8 @@ use Rattle.runs.specs.Demand.{Starts, anyStarts, moved, startDemands, demands, 
 use Rattle.runs.specs.DemandRange.{Proper, demands-proper, any-proper}
 use Rattle.runs.specs.Tools.{Every, every-nil, every-cons, every-append, every-map}
 use Rattle.runs.specs.Allowed.{Plain, any-plain}
+use Rattle.runs.specs.Copies.{fairs-copies, clocks-copies}
+use Rattle.constraints.specs.Sized.{Sized, roundsOf}
 
 -- The guards of the steps are fair and on clocks 1 to n; a demand on a start is between a clock and the start, and small.
 pub record Asked (n : ℕ) (σ : List Step) (D : Starts) : Type 0 where
@@ -28,6 +31,11 @@ pub record Asked (n : ℕ) (σ : List Step) (D : Starts) : Type 0 where
 -- 01's questions: any start is allowed
 pub asked-any : (n : ℕ) (σ : List Step) → Fairs σ → Clocks n σ → Asked n σ anyStarts
 asked-any n σ f c = record { fair = f; clocks = c; proper = λ j p l. any-proper n j; plain = any-plain n }
+
+pub sized-asked : (t : Table) (k : ℕ) → Sized t k → Asked (t .clocks) (roundsOf t k) anyStarts
+sized-asked t k z =
+    asked-any (t .clocks) (roundsOf t k) (fairs-copies (stepsOf t) k (z .good .fair))
+    (clocks-copies (t .clocks) (stepsOf t) k (z .clocks))
 
 -- no demand joins the last resets of two clocks before the start
 abbrev pub Anchored : ℕ → Demand → Type 0

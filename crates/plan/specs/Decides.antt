@@ -6,11 +6,11 @@ use lib.ListN.{length, take}
 use Rattle.table.specs.Step.{Step}
 use Rattle.runs.specs.Demand.{anyStarts, Exists}
 use Rattle.runs.specs.Refutes.{loop-refutes}
-use Rattle.plan.specs.Answer.{Rooms, momentsIn, startsIn, Found, Refuted}
+use Rattle.plan.specs.Answer.{Rooms, momentsIn, startsIn, Planning, Refuted}
 use Rattle.plan.specs.Asked.{Asked, asked-places}
 
 -- Where a plan is found, a run exists.
-pub found-exists : (n : ℕ) (σ : List Step) (r r′ : Rooms) (P : ℕ) → Found n σ r r′ P → Exists n anyStarts σ
+pub found-exists : (n : ℕ) (σ : List Step) (r r′ : Rooms) (P : ℕ) → Planning n σ r r′ P → Exists n anyStarts σ
 found-exists n σ r r′ P f =
     record {
       parts = P;

@@ -9,17 +9,18 @@ use lib.ListN.{length}
 use Rattle.runs.specs.declared.Demand.{Demand}
 use Rattle.runs.specs.Loop.{Link, Loop}
 use Rattle.runs.specs.DemandRange.{Proper}
-use Rattle.runs.specs.Tools as tools
-use Rattle.runs.specs.Tools.{Every, sel, sel-yes, sel-no}
+use Rattle.basics.specs.Choice.{choose as sel, choose-yes as sel-yes, choose-no as sel-no}
+use Rattle.runs.specs.Tools.{Every}
 use Rattle.runs.specs.Parts.{gain, loss}
 use Rattle.runs.specs.Cycle.{cycle-loop}
-use Rattle.paths.specs.Constraint.{Constraint, sum, NegativeCycle, cycle-some, cycle-two}
+use Rattle.basics.specs.Numbers.{sum}
+use Rattle.paths.specs.Constraint.{Constraint, NegativeCycle, cycle-some, cycle-two}
 use Rattle.paths.specs.Places.{at}
-use Rattle.plan.specs.InParts.{inParts, allInParts}
+use Rattle.checks.specs.InParts.{inParts, allInParts}
 
 -- equal numbers have equal sums
-sum-same : (f g : ℕ → ℕ) (n : ℕ) → ((k : ℕ) → k < n → f k ≡ g k) → tools.sum f n ≡ sum g n
-unfolding sum tools.sum
+sum-same : (f g : ℕ → ℕ) (n : ℕ) → ((k : ℕ) → k < n → f k ≡ g k) → sum f n ≡ sum g n
+unfolding sum
 sum-same f g zero h = refl
 sum-same f g (suc n) h = omega (arith, sum-same f g n (λ k l. h k (omega arith)), h n (omega arith))
 

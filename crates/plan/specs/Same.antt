@@ -8,7 +8,7 @@ use Rattle.table.specs.Step.{Step}
 use Rattle.runs.specs.Run.{Run}
 use Rattle.runs.specs.Demand.{Starts, Allowed}
 use Rattle.runs.specs.Rows.{Row, rowAt, row-is, run-row, run-satisfies}
-use Rattle.runs.specs.Tools.{top, top-ge}
+use Rattle.basics.specs.Numbers.{top, top-ge}
 use Rattle.plan.specs.Planned.{Planned}
 use Rattle.plan.specs.Asked.{Asked, asked-places}
 

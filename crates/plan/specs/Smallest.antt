@@ -13,13 +13,13 @@ use Rattle.runs.specs.Demand.{Starts, demands, Allowed}
 use Rattle.runs.specs.Parts.{gain, loss, holds-parts}
 use Rattle.runs.specs.Satisfies.{Satisfies}
 use Rattle.runs.specs.Rows.{rowAt, row-now, row-past, row-is, run-row, run-satisfies}
-use Rattle.runs.specs.Tools.{top, top-ge}
+use Rattle.basics.specs.Numbers.{top, top-ge}
 use Rattle.paths.specs.Constraint.{Constraint}
 use Rattle.plan.specs.Planned.{Planned}
 use Rattle.plan.specs.Asked.{Asked, Anchored, asked-places, asked-proper, asked-anchored}
-use Rattle.plan.specs.InParts.{inParts, allInParts}
+use Rattle.checks.specs.InParts.{inParts, allInParts}
 use Rattle.plan.specs.Earliest.{Least, solution-now, solution-past, least-earliest}
-use Rattle.plan.specs.LeastStart.{lag, leastStart, start-enough, start-least}
+use Rattle.readout.specs.LeastStart.{lag, leastStart, start-enough, start-least}
 
 -- the moments of a solution x, and the smallest starts for them
 abbrev pub momentsOf : (ℕ → ℕ) → ℕ → ℕ

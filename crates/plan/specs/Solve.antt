@@ -14,16 +14,19 @@ use Rattle.paths.specs.Places.{at, written, filled, length-written, at-written,
 use Rattle.paths.specs.State.{State, state}
 use Rattle.paths.specs.Bounds.{Room}
 use Rattle.paths.specs.Code.{Wrote, wrote-rest, Returns, cycle-returns}
-use Rattle.plan.specs.Answer.{Rooms, rooms, momentsIn, startsIn, Found, Refuted}
-use Rattle.plan.specs.InParts.{allInParts}
+use Rattle.plan.specs.Answer.{Rooms, rooms, momentsIn, startsIn, Planning, Refuted}
+use Rattle.checks.specs.InParts.{allInParts}
 use Rattle.plan.specs.Earliest.{Least, solution-now}
 use Rattle.plan.specs.Smallest.{momentsOf, startsOf, least-planned}
-use Rattle.plan.specs.LeastStart.{leastStart}
+use Rattle.readout.specs.LeastStart.{leastStart}
 use Rattle.plan.specs.Same.{planned-same}
-use Rattle.plan.specs.Passes.{Begins, Ended, ended-least, ended-loop}
-use Rattle.plan.specs.Sized.{Sized, partsOf, roundsOf, constraintsOf, sized-asked, sized-parts}
-use Rattle.plan.specs.Ending.{Ready, ended-under, ended-size}
-use Rattle.plan.specs.Lift.{startAt, Startable}
+use Rattle.relaxing.specs.Passes.{Begins, Ended}
+use Rattle.plan.specs.Found.{ended-least, ended-loop}
+use Rattle.constraints.specs.Sized.{Sized, partsOf, roundsOf, sized-parts}
+use Rattle.checks.specs.Weights.{constraintsOf}
+use Rattle.plan.specs.Asked.{sized-asked}
+use Rattle.relaxing.specs.Ending.{Ready, ended-under, ended-size}
+use Rattle.readout.specs.Lift.{startAt, Startable}
 
 -- What is asked of the rooms.
 pub record Roomy (t : Table) (k : ℕ) (r : Rooms) : Type 0 where
@@ -157,12 +160,12 @@ module _ (t : Table) (k : ℕ) (z : Sized t k) where
     answer-moments l i m =
         solution-now P n σ anyStarts (at (s′ .time)) (least l .solution) i (omega (arith, length-rounds t k))
 
-    pub answer-found : P ≤ u → (r : Rooms) → Roomy t k r → (times′ starts′ : List ℕ)
-        → times′ ≡ written (λ i. at (s′ .time) (i + 1) - at (s′ .time) 0) K (r .times)
+    pub answer-found : P ≤ u → (r : Rooms) → Roomy t k r → (times′ starts′ : List ℕ) (m : ℕ) → m ≡ K
+        → times′ ≡ written (λ i. at (s′ .time) (i + 1) - at (s′ .time) 0) m (r .times)
         → starts′ ≡ written (startAt t k (s′ .time)) n (r .starts)
-        → Found n σ r (rooms times′ starts′ (r .loop)) P
+        → Planning n σ r (rooms times′ starts′ (r .loop)) P
     unfolding constraintsOf
-    answer-found l r room times′ starts′ e f =
+    answer-found l r room times′ starts′ m all first f =
         record {
           parts = omega (arith, length-rounds t k);
           planned =
@@ -171,8 +174,8 @@ module _ (t : Table) (k : ℕ) (z : Sized t k) where
               moments smallest
               (least-planned P n σ anyStarts (omega arith) (sized-asked t k z) x (least l));
           times = record {
-            size = ap length e ∙ length-written _ K (r .times) (room .times);
-            rest = rw (length-rounds t k) (rw e (drop-written _ K (r .times)));
+            size = ap length all-moments ∙ length-written _ K (r .times) (room .times);
+            rest = rw (length-rounds t k) (rw all-moments (drop-written _ K (r .times)));
           };
           starts = record {
             size = ap length f ∙ length-written _ n (r .starts) (room .starts);
@@ -184,10 +187,13 @@ module _ (t : Table) (k : ℕ) (z : Sized t k) where
         x : ℕ → ℕ
         x = at (s′ .time)
 
+        all-moments : times′ ≡ written (λ i. x (i + 1) - x 0) K (r .times)
+        all-moments = rw all at first
+
         moments : (i : ℕ) → i ≤ length σ → momentsIn times′ i ≡ momentsOf x i
         moments zero m = omega arith
         moments (suc i) m =
-            ap (λ (y : List ℕ). at y i) e
+            ap (λ (y : List ℕ). at y i) all-moments
             ∙ at-written _ K (r .times) i (omega (arith, length-rounds t k))
             ∙ ap (λ (v : ℕ). x v - x 0) (omega arith)
 

@@ -1,15 +1,14 @@
 -- The answer for a table with its steps trimmed is the answer for the table.
-use mathlib.Core.Path.{_≡_, refl, sym, ap, _∙_, subst}
+use mathlib.Core.Path.{_≡_, sym, ap, _∙_, subst}
 use mathlib.Core.Logic.{_↔_}
 use mathlib.Core.List.{List}
-use Prim.Native.Nat.{ℕ, _+_, _*_, _≤_, _<_}
+use Prim.Native.Nat.{ℕ, _<_}
 use native.Mathlib.Omega.{arith}
-use lib.ListN.{length, take}
+use lib.ListN.{take}
 use Rattle.table.specs.Step.{Step, stepsOf}
 use Rattle.table.specs.declared.Table.{Table}
 use Rattle.runs.specs.Run.{Run, copies}
-use Rattle.runs.specs.Demand.{Starts, Allowed, anyStarts, Clocks}
-use Rattle.runs.specs.Copies.{fairs-copies, clocks-copies}
+use Rattle.runs.specs.Demand.{Allowed, anyStarts, Clocks}
 use Rattle.trim.specs.Trimmed.{trimSteps}
 use Rattle.trim.specs.Trims.{Trims}
 use Rattle.trim.specs.Covers.{covers-loop}
@@ -17,12 +16,12 @@ use Rattle.trim.specs.Rounds.{covers-demands, length-trim, clocks-trim, copies-
 use Rattle.trim.specs.Runs.{runs-trim}
 use Rattle.plan.specs.declared.Outcome.{Outcome}
 use Rattle.plan.specs.declared.Outcome.the-variants as outcome
-use Rattle.plan.specs.Asked.{Asked, asked-places}
-use Rattle.plan.specs.declared.Admission.the-variants as admission
-use Rattle.plan.specs.Answer.{Rooms, Found, Refuted, Answered, admitRooms, Meets}
+use Rattle.plan.specs.Asked.{Asked, asked-places, sized-asked}
+use Rattle.asking.specs.declared.Admission.the-variants as admission
+use Rattle.plan.specs.Answer.{Rooms, Answered, admitRooms, Meets}
 use Rattle.plan.specs.Admit.{admit-sized, meets-accepted}
 use Rattle.plan.specs.Planned.{Planned}
-use Rattle.plan.specs.Sized.{Sized, Tabled, roundsOf, sized-asked}
+use Rattle.constraints.specs.Sized.{Sized, Tabled, roundsOf}
 use Rattle.plan.specs.Solve.{Roomy}
 
 -- ---- steps

@@ -2,19 +2,48 @@
 use plan::Outcome;
 use testkit::field;
 use testkit::fill;
+use testkit::name;
 use testkit::refusal;
-use testkit::title;
+use testkit::table;
 use testkit::wide;
 use testkit::word;
+ghost use Prim.Native.Nat.{_≤_};
 
-fn answer(outcome: Outcome) {
-    match outcome {
-        Outcome::Found(parts) => field(b"parts ", parts),
-        Outcome::Loop(length) => field(b"loop ", length as u64),
-        Outcome::Refused(why) => refusal(why),
-    }
-    word(b"\n");
-}
+// Which of testkit's tables, and k.
+const CASES: [[u64; 2]; 24] = [
+    // 01's samples.
+    [1, 2],
+    [2, 2],
+    [2, 3],
+    [3, 2],
+    [3, 3],
+    [4, 3],
+    [4, 4],
+    [5, 1],
+    [5, 2],
+    [6, 1],
+    [7, 1],
+    [8, 3],
+    [9, 2],
+    [10, 2],
+    // k of 0, too large, and far too large; the reader's refusals first.
+    [2, 0],
+    [2, 1025],
+    [2, 18446744073709551615],
+    [14, 513],
+    [13, 0],
+    [11, 4001],
+    // As many steps as are allowed, and one more.
+    [1, 1024],
+    [1, 1025],
+    [18, 1023],
+    [18, 1024],
+];
+
+// The places of the three rooms: for up to four steps and two clocks, and for as many as are allowed, with places to spare.
+const SMALL: [usize; 3] = [5, 3, 8];
+
+const LARGE: [usize; 3] = [1026, 7, 1032];
 
 // What a room holds, from a place on.
 fn room(name: &[u8], cells: &[u64], from: usize) {
@@ -24,122 +53,115 @@ fn room(name: &[u8], cells: &[u64], from: usize) {
         field(b" ", cells[i]);
         i += 1;
     }
-    word(b"\n");
 }
 
-// A name, the answer on k rounds, and all three rooms as they then are.
-fn show(
-    name: &[u8],
+// The answer on k rounds, and all three rooms as they then are.
+fn ask(
     bytes: &[u8],
     k: u64,
     times: &mut [u64],
     starts: &mut [u64],
     vertices: &mut [u64],
+    from: usize,
 ) {
-    title(name);
-    answer(plan::plan(bytes, k, &mut *times, &mut *starts, &mut *vertices));
-    room(b"  times", &*times, 0);
-    room(b"  starts", &*starts, 0);
-    room(b"  loop", &*vertices, 0);
+    let outcome = plan::plan(bytes, k, &mut *times, &mut *starts, &mut *vertices);
+    match outcome {
+        Outcome::Found(parts) => field(b"parts ", parts),
+        Outcome::Loop(length) => field(b"loop ", length as u64),
+        Outcome::Refused(why) => refusal(why),
+    }
+    room(b"\n  times", &*times, from);
+    room(b"\n  starts", &*starts, 0);
+    room(b"\n  loop", &*vertices, from);
 }
 
-// Rooms for up to four steps and two clocks, with places to spare.
-fn roomy(name: &[u8], bytes: &[u8], k: u64) {
-    let mut times = [9u64; 5];
-    let mut starts = [9u64; 3];
-    let mut vertices = [9u64; 8];
-    show(name, bytes, k, &mut times, &mut starts, &mut vertices);
+// The same in the first places of some rooms.
+fn part(
+    bytes: &[u8],
+    k: u64,
+    times: &mut [u64],
+    starts: &mut [u64],
+    vertices: &mut [u64],
+    sizes: [usize; 3],
+    from: usize,
+) {
+    let a = sizes[0];
+    let b = sizes[1];
+    let c = sizes[2];
+    if a <= times.len() {
+        if b <= starts.len() {
+            if c <= vertices.len() {
+                ask(
+                    bytes,
+                    k,
+                    &mut times[..a],
+                    &mut starts[..b],
+                    &mut vertices[..c],
+                    from,
+                );
+            }
+        }
+    }
 }
 
-fn samples() {
-    roomy(b"S1 for 2", &testkit::S1, 2);
-    roomy(b"S2 for 2", &testkit::S2, 2);
-    roomy(b"S2 for 3", &testkit::S2, 3);
-    roomy(b"S3 for 2", &testkit::S3, 2);
-    roomy(b"S3 for 3", &testkit::S3, 3);
-    roomy(b"S4 for 3", &testkit::S4, 3);
-    roomy(b"S4 for 4", &testkit::S4, 4);
+fn show(bytes: &[u8], k: u64, sizes: [usize; 3], from: usize) {
+    let mut times = [9u64; 1026];
+    let mut starts = [9u64; 7];
+    let mut vertices = [9u64; 1032];
+    part(
+        bytes,
+        k,
+        &mut times,
+        &mut starts,
+        &mut vertices,
+        sizes,
+        from,
+    );
+    word(b"\n");
 }
 
-fn more_samples() {
-    roomy(b"S5 for 1", &testkit::S5, 1);
-    roomy(b"S5 for 2", &testkit::S5, 2);
-    roomy(b"S6 for 1", &testkit::S6, 1);
-    roomy(b"S7 for 1", &testkit::S7, 1);
-    roomy(b"S8 for 3", &testkit::S8, 3);
-    roomy(b"S9 for 2", &testkit::S9, 2);
-    roomy(b"S10 for 2", &testkit::S10, 2);
+fn case(number: u64, k: u64, sizes: [usize; 3], from: usize) {
+    let tape = testkit::TABLES;
+    word(name(&tape, number as usize));
+    field(b" for ", k);
+    word(b": ");
+    show(table(&tape, number as usize), k, sizes, from);
+}
+
+// Some of the cases, with the rooms' places and the first of them that is printed of the times and of the loop.
+fn cases(first: usize, end: usize, sizes: [usize; 3], from: usize)
+    requires { ⌜ end ≤ 24 ⌝ }
+{
+    let all = CASES;
+    let mut i = first;
+    while i < end {
+        let c = all[i];
+        case(c[0], c[1], sizes, from);
+        i += 1;
+    }
 }
 
 // S2 for 2 needs 2 times, 2 starts and a loop room of 5.
 fn rooms() {
-    let s2 = testkit::S2;
-    let mut times = [9u64; 2];
-    let mut starts = [9u64; 2];
-    let mut vertices = [9u64; 5];
-    let mut few_times = [9u64; 1];
-    let mut few_starts = [9u64; 1];
-    let mut few_vertices = [9u64; 4];
-    show(
-        b"times short",
-        &s2,
-        2,
-        &mut few_times,
-        &mut few_starts,
-        &mut few_vertices,
-    );
-    show(
-        b"starts short",
-        &s2,
-        2,
-        &mut times,
-        &mut few_starts,
-        &mut few_vertices,
-    );
-    show(
-        b"loop room short",
-        &s2,
-        2,
-        &mut times,
-        &mut starts,
-        &mut few_vertices,
-    );
-    show(b"all exact", &s2, 2, &mut times, &mut starts, &mut vertices);
+    let tape = testkit::TABLES;
+    let s2 = table(&tape, 2);
+    word(b"times short: ");
+    show(s2, 2, [1, 1, 4], 0);
+    word(b"starts short: ");
+    show(s2, 2, [2, 1, 4], 0);
+    word(b"loop room short: ");
+    show(s2, 2, [2, 2, 4], 0);
+    word(b"all exact: ");
+    show(s2, 2, [2, 2, 5], 0);
 }
 
-fn refusals() {
-    let s2 = testkit::S2;
-    roomy(b"S2 for 0", &s2, 0);
-    roomy(b"S2 for 1025", &s2, 1025);
-    roomy(b"S2 for 18446744073709551615", &s2, 18446744073709551615);
-    roomy(b"two steps for 513", b"\x01\x01\x04\x04\x05", 513);
-    roomy(b"no table for 0", b"\x01\x01\x05", 0);
-    roomy(b"S11 for 4001", &testkit::S11, 4001);
-}
-
-// As many steps as are allowed; the last moments are printed.
-fn largest(name: &[u8], bytes: &[u8], k: u64) {
-    let mut times = [9u64; 1026];
-    let mut starts = [9u64; 7];
-    let mut vertices = [9u64; 1032];
-    title(name);
-    answer(plan::plan(bytes, k, &mut times, &mut starts, &mut vertices));
-    room(b"  times", &times, 1020);
-    room(b"  starts", &starts, 0);
-    room(b"  loop", &vertices, 1020);
-}
-
-fn long() {
-    let s1 = testkit::S1;
-    largest(b"S1 for 1024", &s1, 1024);
-    largest(b"S1 for 1025", &s1, 1025);
-    let late = b"\x01\x02\x02\x01\x03\x01\x00\x02\x02\x01\xfe\x03\x03\x01\x04\x05";
-    largest(b"a lead of 1022 for 1023", late, 1023);
-    largest(b"a lead of 1022 for 1024", late, 1024);
+// As many steps as are allowed of a table with all clocks, and a round more.
+fn widest(k: u64) {
     let mut bytes = [0u8; 131];
     wide(&mut bytes, b"\x05");
-    largest(b"six clocks, sixteen steps for 64", &bytes, 64);
-    largest(b"six clocks, sixteen steps for 65", &bytes, 65);
+    field(b"six clocks, sixteen steps for ", k);
+    word(b": ");
+    show(&bytes, k, LARGE, 1020);
 }
 
 // Sixteen steps within a tick of each other, of which the last comes 1000 ticks after the first: the loop goes back step by step,
@@ -152,24 +174,16 @@ fn chain() {
         b"\x02\x01\x01\x01\x00\x03\x01\x04",
         b"\x02\x01\x01\x01\x00\x02\x02\x03\xe8\x03\x03\x01\x04\x05",
     );
-    let mut times = [9u64; 16];
-    let mut starts = [9u64; 2];
-    let mut vertices = [9u64; 20];
-    show(
-        b"chain for 1",
-        &bytes,
-        1,
-        &mut times,
-        &mut starts,
-        &mut vertices,
-    );
+    word(b"chain for 1: ");
+    show(&bytes, 1, [16, 2, 20], 0);
 }
 
 fn main() {
-    samples();
-    more_samples();
+    cases(0, 14, SMALL, 0);
     rooms();
-    refusals();
-    long();
+    cases(14, 20, SMALL, 0);
+    cases(20, 24, LARGE, 1020);
+    widest(64);
+    widest(65);
     chain();
 }

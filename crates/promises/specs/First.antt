@@ -1,97 +1,74 @@
--- The first promise: what is refused, with which numbers, and that everything else is answered. The numbers of an answer are
--- those of judge/specs/Numbers.antt: 01's number of a refusal and its place, or 0 and the values.
-use mathlib.Core.Path.{_≡_, refl, ap, subst}
-use mathlib.Core.List.{List, List·Memᴰ·not-nil}
-use Prim.Native.Nat.{ℕ}
-use native.Mathlib.Omega.{arith}
-use lib.ListN.{getD}
+-- The first promise: every bad table, bad number of rounds and short room is refused exactly as 01's table says; everything
+-- else is answered.
+use mathlib.Core.Path.{_≡_}
+use mathlib.Core.Bool.{Bool, cond}
+use mathlib.Core.List.{List}
+use Prim.Native.Nat.{ℕ, _+_, _*_, _≤_, _<_}
+use lib.Dec.{leb}
+use lib.IntN.{ℤ}
+use lib.ListN.{length, getD}
+use Rattle.table.specs.Refusal.{numberOf}
 use Rattle.table.specs.declared.Refusal.{Refusal}
 use Rattle.table.specs.declared.Read.the-variants as read
+use Rattle.wire.specs.Records.{Bytes}
 use Rattle.wire.specs.Reading.{readOf}
-use Rattle.wire.specs.Listing.{listing, cycle}
-use Rattle.runs.specs.Run.{copies, done}
-use Rattle.runs.specs.Demand.{anyStarts, Exists}
-use Rattle.rounds.specs.declared.Count.{Count}
-use Rattle.rounds.specs.declared.Count.the-variants as count
-use Rattle.rounds.specs.Answer as rounds
-use Rattle.plan.specs.declared.Outcome.{Outcome}
-use Rattle.plan.specs.declared.Outcome.the-variants as outcome
-use Rattle.plan.specs.declared.Admission.the-variants as admission
-use Rattle.plan.specs.Answer as plan
-use Rattle.demands.specs.declared.Listed.the-variants as listed
-use Rattle.demands.specs.Listed.{listedOf}
-use Rattle.judge.specs.Numbers.{refusedNumbers, countNumbers, planNumbers, demandsNumbers}
+use Rattle.wire.specs.Listing.{Listing}
+use Rattle.format.specs.Encode.{encode, guardCount, Legal}
+use Rattle.asking.specs.Admission.{inRange}
+use Rattle.asking.specs.Rounds.{demandsIn}
+use Rattle.cells.specs.Lines.{cells, over}
+use Rattle.plan.specs.Answer.{Rooms}
+use Rattle.numbers.specs.Numbers.{four, refusedNumbers}
+use Rattle.promises.specs.Told.{NotRefused, ReadSays, RoundsSays, PlanSays, DemandsSays}
 
--- the first number of an answer: 0, or the number of a refusal
-abbrev pub first : List ℕ → ℕ
-first numbers = getD numbers 0 0
+-- the number of a row of 01's table, unless its test holds
+abbrev pub row : ℕ → Bool → ℕ → ℕ
+row number test rest = cond test rest number
 
--- For all bytes, all numbers of rounds k and all rooms. A refused table is refused by each question, as "read" refuses it; "rounds"
--- refuses no other; "plan for k" refuses exactly what 01's rows 11 to 14 say, in their order (`askingOf`), and then no room changes.
--- What "demands for k" answers is a definition (`listedOf`), with rows 11 and 15.
-pub record First (bytes : List ℕ) : Type 0 where
-  pub rounds-refused : (f : Refusal) → readOf bytes ≡ read.Refused f → (r : Count) → rounds.Answers (readOf bytes) bytes r
-      → countNumbers r ≡ refusedNumbers f
-  pub rounds-answered : (n L g : ℕ) → readOf bytes ≡ read.Counted n L g → (r : Count)
-      → rounds.Answers (readOf bytes) bytes r → first (countNumbers r) ≡ 0
-  pub plan-refused : (k : ℕ) (before after : plan.Rooms) (a : Outcome) → plan.Answers bytes k before after a
-      → (f : Refusal) → plan.askingOf bytes k before ≡ admission.Refused f
-      → (planNumbers a ≡ refusedNumbers f) × (after ≡ before)
-  pub plan-answered : (k : ℕ) (before after : plan.Rooms) (a : Outcome) → plan.Answers bytes k before after a
-      → plan.askingOf bytes k before ≡ admission.Accepted → first (planNumbers a) ≡ 0
-  pub demands-refused : (f : Refusal) → readOf bytes ≡ read.Refused f → (k room : ℕ)
-      → demandsNumbers (listedOf bytes k room) ≡ refusedNumbers f
+-- The rows after the table, in 01's order: which refuses a plan for k rounds of n clocks and L steps, or 0.
+abbrev pub planRow : ℕ → ℕ → ℕ → Rooms → ℕ
+planRow n L k rooms =
+    row 11 (inRange k L)
+    (row 12 (leb (k * L) (length (rooms .times)))
+    (row 13 (leb n (length (rooms .starts)))
+    (row 14 (leb (k * L + n + 1) (length (rooms .loop)))
+    0)))
 
-module _ (bytes : List ℕ) where
-  counted : (n L g : ℕ) → readOf bytes ≡ read.Counted n L g → (r : Count) → rounds.Answers (readOf bytes) bytes r
-      → rounds.Counts (listing bytes .clocks) (cycle (listing bytes)) r
-  counted n L g e r a = subst (λ q. rounds.Answers q bytes r) e a
+-- The same for the demands of k rounds of L steps, which are `count`, with a row of so many places.
+abbrev pub demandsRow : ℕ → ℕ → ℕ → ℕ → ℕ
+demandsRow L k count room = row 11 (inRange k L) (row 15 (leb (4 * count) room) 0)
 
-  -- 0 rounds always run, so a count is no refusal
-  nothing : Exists (listing bytes .clocks) anyStarts (copies (cycle (listing bytes)) 0)
-  unfolding copies anyStarts
-  nothing =
-      record {
-        parts = 1;
-        positive = omega arith;
-        moments = λ i. 0;
-        starts = λ j. 0;
-        allowed = record { allowed = λ j p l d m. absurd (List·Memᴰ·not-nil m) };
-        run = record { start = refl; goes = done };
-      }
+-- The numbers a tell of a row, with place 0, and `kept` holds; or of none, and then they are an answer.
+pub record Refuses (number : ℕ) (kept : Type 0) (a : List ℕ) : Type 0 where
+  pub first : getD a 0 0 ≡ number
+  pub refused : 0 < number → (a ≡ four number 0 0 0) × kept
 
-  answered-count : (r : Count) → rounds.Allows r 0 → first (countNumbers r) ≡ 0
-  answered-count (count.Finite c) h = refl
-  answered-count count.Endless h = refl
-  answered-count (count.Refused f) h = absurd h
+-- All four questions accept the bytes as a table with n clocks, L steps and g guards, and refuse what the rows after it say.
+pub record AcceptedBy (bytes : List ℕ) (n L g : ℕ) : Type 0 where
+  pub read : (a : List ℕ) → ReadSays bytes a → a ≡ four 0 n L g
+  pub rounds : (a : List ℕ) → RoundsSays bytes a → NotRefused a
+  pub plan : (k : ℕ) (before after : Rooms) (a : List ℕ) → PlanSays bytes k before after a
+      → Refuses (planRow n L k before) (after ≡ before) a
+  pub demands : (k : ℕ) (before after : List ℤ) (a : List ℕ) → DemandsSays bytes k before after a
+      → Refuses (demandsRow L k (length (demandsIn bytes k)) (length before)) (after ≡ before) a
+  -- where no row refuses them, the demands are answered by their number, and stand in the first places of the row
+  pub demanded : (k : ℕ) (before after : List ℤ) (a : List ℕ) → DemandsSays bytes k before after a
+      → demandsRow L k (length (demandsIn bytes k)) (length before) ≡ 0
+      → (a ≡ four 0 (length (demandsIn bytes k)) 0 0) × (after ≡ over (cells (demandsIn bytes k)) before)
 
-  answered-plan : (k : ℕ) (before after : plan.Rooms) (a : Outcome)
-      → plan.Answered (listing bytes .clocks) (copies (cycle (listing bytes)) k) before after a → first (planNumbers a) ≡ 0
-  answered-plan k before after (outcome.Found P) h = refl
-  answered-plan k before after (outcome.Loop m) h = refl
-  answered-plan k before after (outcome.Refused f) h = absurd h
+-- All four questions refuse the bytes for the same fault, of 01's rows 1 to 10 (`readOf`), and change no room.
+pub record RefusedBy (bytes : List ℕ) : Type 0 where
+  pub fault : Refusal
+  pub found : readOf bytes ≡ read.Refused fault
+  pub number : (1 ≤ numberOf (fault .fault)) × (numberOf (fault .fault) ≤ 10)
+  pub read : (a : List ℕ) → ReadSays bytes a → a ≡ refusedNumbers fault
+  pub rounds : (a : List ℕ) → RoundsSays bytes a → a ≡ refusedNumbers fault
+  pub plan : (k : ℕ) (before after : Rooms) (a : List ℕ) → PlanSays bytes k before after a
+      → (a ≡ refusedNumbers fault) × (after ≡ before)
+  pub demands : (k : ℕ) (before after : List ℤ) (a : List ℕ) → DemandsSays bytes k before after a
+      → (a ≡ refusedNumbers fault) × (after ≡ before)
 
-  meets : (k : ℕ) (before after : plan.Rooms) (a : Outcome) → plan.Answers bytes k before after a
-      → plan.Meets (plan.askingOf bytes k before) (listing bytes .clocks) (copies (cycle (listing bytes)) k) before after a
-  meets k before after a h = h .answers
-
-  refused-list : (f : Refusal) → readOf bytes ≡ read.Refused f → (k room : ℕ) → listedOf bytes k room ≡ listed.Refused f
-  unfolding listedOf
-  refused-list f e k room = rw (listedOf, e) refl
-
-  pub first-promise : First bytes
-  first-promise =
-      record {
-        rounds-refused = λ f e r a. ap countNumbers (subst (λ q. rounds.Answers q bytes r) e a);
-        rounds-answered = λ n L g e r a. answered-count r (counted n L g e r a .runs 0 .0 nothing);
-        plan-refused = λ k before after a h f e.
-            let m =
-            subst (λ q. plan.Meets q (listing bytes .clocks) (copies (cycle (listing bytes)) k) before after a) e
-            (meets k before after a h) in
-            (ap planNumbers (m .0), m .1);
-        plan-answered = λ k before after a h e.
-            answered-plan k before after a
-            (subst (λ q. plan.Meets q (listing bytes .clocks) (copies (cycle (listing bytes)) k) before after a) e
-            (meets k before after a h));
-        demands-refused = λ f e k room. ap demandsNumbers (refused-list f e k room);
-      }
+-- The bytes of every legal table are accepted, and all other bytes are refused. Which fault counts: format/specs/FirstFault.antt.
+pub record First : Type 0 where
+  pub legal : (l : Listing) → Legal l → AcceptedBy (encode l) (l .clocks) (length (l .steps)) (guardCount (l .steps))
+  pub other : (bytes : List ℕ) → Bytes bytes → ((l : Listing) → Legal l → encode l ≡ bytes → ⊥) → RefusedBy bytes

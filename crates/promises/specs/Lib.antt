@@ -1,4 +1,14 @@
+-- what is promised
 pub mod Told
 pub mod First
-pub mod Third
 pub mod Second
+pub mod Third
+-- the entries answer what is spoken of
+pub mod Entries
+-- and the promises hold
+pub mod Rows
+pub mod Reader
+pub mod FirstHolds
+pub mod Plans
+pub mod SecondHolds
+pub mod ThirdHolds

@@ -1,65 +1,61 @@
--- What the numbers of an answer say (judge/specs/Numbers.antt).
-use mathlib.Core.Path.{_≡_, refl}
-use mathlib.Core.Logic.{_↔_, _⊎_, inl, inr}
+-- What the four numbers of an answer are, and what they say. They stand in the first places of the answer room that an entry of
+-- judge/src/lib.rt leaves (Entries.antt): 01's number of a refusal and its place; or 0 and the values (numbers/specs/Numbers.antt).
+use mathlib.Core.Path.{_≡_}
+use mathlib.Core.Logic.{_⊎_}
 use mathlib.Core.List.{List}
-use Prim.Native.Nat.{ℕ, _≤_, _<_}
-use native.Mathlib.Omega.{arith}
-use lib.ListN.{getD}
-use Rattle.table.specs.Refusal.{numberOf}
-use Rattle.table.specs.declared.Fault.{Fault}
-use Rattle.table.specs.declared.Fault.the-variants as fault
+use Prim.Native.Nat.{ℕ, _≤_}
+use lib.IntN.{ℤ}
+use lib.ListN.{getD, take}
+use Rattle.table.specs.declared.Read.the-variants as read
+use Rattle.wire.specs.Records.{Bytes}
+use Rattle.wire.specs.Reading.{readOf}
+use Rattle.runs.specs.Loop.{Loop}
+use Rattle.asking.specs.Rounds.{demandsIn}
 use Rattle.rounds.specs.declared.Count.{Count}
-use Rattle.rounds.specs.declared.Count.the-variants as count
-use Rattle.rounds.specs.Answer.{Allows}
+use Rattle.rounds.specs.Answer as rounds
 use Rattle.plan.specs.declared.Outcome.{Outcome}
-use Rattle.plan.specs.declared.Outcome.the-variants as outcome
-use Rattle.judge.specs.Numbers.{countNumbers, planNumbers}
+use Rattle.plan.specs.Answer as plan
+use Rattle.demands.specs.Listed.{listedOf, rowRoom, rowOf}
+use Rattle.numbers.specs.Numbers.{readNumbers, countNumbers, planNumbers, demandsNumbers}
 
--- of "rounds": no refusal, and without end or at least k
-abbrev pub Allowed : List ℕ → ℕ → Type 0
-Allowed numbers k =
-    (getD numbers 0 0 ≡ 0) × ((getD numbers 1 0 ≡ 1) ⊎ ((getD numbers 1 0 ≡ 0) × (k ≤ getD numbers 2 0)))
+-- The bytes are a table with n clocks, L steps and g guards.
+pub record IsTable (bytes : List ℕ) (n L g : ℕ) : Type 0 where
+  pub small : Bytes bytes
+  pub accepted : readOf bytes ≡ read.Counted n L g
 
--- of "plan": no refusal, and a plan
-abbrev pub Given : List ℕ → Type 0
-Given numbers = (getD numbers 0 0 ≡ 0) × (getD numbers 1 0 ≡ 0)
+-- ---- a are the numbers that a question answers, put to these bytes
+abbrev pub ReadSays : List ℕ → List ℕ → Type 0
+ReadSays bytes a = a ≡ readNumbers (readOf bytes)
 
--- the answer is a plan
-abbrev pub IsPlan : Outcome → Type 0
-IsPlan (outcome.Found P) = Unit {0}
-IsPlan (outcome.Loop m) = ⊥
-IsPlan (outcome.Refused f) = ⊥
+pub record RoundsSays (bytes a : List ℕ) : Type 0 where
+  pub count : Count
+  pub answers : rounds.Answers (readOf bytes) bytes count
+  pub numbers : a ≡ countNumbers count
 
--- no refusal has the number 0
-pub number-some : (f : Fault) → 0 < numberOf f
-number-some fault.Length = omega arith
-number-some fault.Cut = omega arith
-number-some fault.Kind = omega arith
-number-some fault.Head = omega arith
-number-some fault.Bounds = omega arith
-number-some fault.Timer = omega arith
-number-some fault.Relation = omega arith
-number-some fault.Constant = omega arith
-number-some fault.Steps = omega arith
-number-some fault.Tail = omega arith
-number-some fault.Rounds = omega arith
-number-some fault.Times = omega arith
-number-some fault.Starts = omega arith
-number-some fault.Loop = omega arith
-number-some fault.List = omega arith
+-- the rooms for times, starts and a loop are left so, too
+pub record PlanSays (bytes : List ℕ) (k : ℕ) (before after : plan.Rooms) (a : List ℕ) : Type 0 where
+  pub outcome : Outcome
+  pub answers : plan.Answers bytes k before after outcome
+  pub numbers : a ≡ planNumbers outcome
 
--- The numbers of a count say which numbers of rounds it allows.
-pub allows-numbers : (r : Count) (k : ℕ) → Allows r k ↔ Allowed (countNumbers r) k
-allows-numbers (count.Finite c) k = ((λ h. (refl, inr (refl, h))), λ h. least (h .1))
-  where
-    least : (_≡_ {A = ℕ} 0 1) ⊎ ((_≡_ {A = ℕ} 0 0) × (k ≤ c)) → k ≤ c
-    least (inl e) = absurd (omega arith)
-    least (inr e) = e .1
-allows-numbers count.Endless k = ((λ h. (refl, inl refl)), λ h. tt)
-allows-numbers (count.Refused f) k = ((λ h. absurd h), λ h. absurd (omega (arith, number-some (f .fault), h .0)))
+-- and the row
+pub record DemandsSays (bytes : List ℕ) (k : ℕ) (before after : List ℤ) (a : List ℕ) : Type 0 where
+  pub numbers : a ≡ demandsNumbers (listedOf bytes k (rowRoom before))
+  pub row : after ≡ rowOf bytes k (rowRoom before) before
 
--- The numbers of an answer to "plan" say whether it is a plan.
-pub plan-numbers : (a : Outcome) → IsPlan a ↔ Given (planNumbers a)
-plan-numbers (outcome.Found P) = ((λ h. (refl, refl)), λ h. tt)
-plan-numbers (outcome.Loop m) = ((λ h. absurd h), λ h. absurd (omega (arith, h .1)))
-plan-numbers (outcome.Refused f) = ((λ h. absurd h), λ h. absurd (omega (arith, number-some (f .fault), h .0)))
+-- ---- what the numbers say
+-- no refusal
+abbrev pub NotRefused : List ℕ → Type 0
+NotRefused a = getD a 0 0 ≡ 0
+
+-- "rounds": without end, or at least k
+abbrev pub AllowsRounds : List ℕ → ℕ → Type 0
+AllowsRounds a k = NotRefused a × ((getD a 1 0 ≡ 1) ⊎ ((getD a 1 0 ≡ 0) × (k ≤ getD a 2 0)))
+
+-- "plan": a plan, in so many parts to a tick
+abbrev pub GivesPlan : List ℕ → ℕ → Type 0
+GivesPlan a P = NotRefused a × (getD a 1 0 ≡ 0) × (getD a 2 0 ≡ P)
+
+-- "plan": a loop of so many moments, and they stand in the first places of the loop room
+abbrev pub GivesLoop : List ℕ → ℕ → plan.Rooms → List ℕ → Type 0
+GivesLoop bytes k after a = NotRefused a × (getD a 1 0 ≡ 1) × Loop (demandsIn bytes k) (take (getD a 2 0) (after .loop))

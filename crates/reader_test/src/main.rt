@@ -2,9 +2,57 @@
 use table::Read;
 use testkit::field;
 use testkit::fill;
+use testkit::name;
 use testkit::refusal;
+use testkit::table;
 use testkit::title;
 use testkit::word;
+
+// Small tables: cut short, of wrong kinds, on clocks, with numbers at their limits, at their ends, and with two faults, of which the
+// first counts and, within a record, the order of the rows.
+const SMALL: [u8; 839] = *b"\
+    empty:\x00\
+    lone head kind:\x01\x01\
+    head only:\x02\x01\x01\
+    guard cut:\x06\x01\x01\x02\x01\x01\x00\
+    reset cut:\x03\x01\x01\x03\
+    no end:\x03\x01\x01\x04\
+    kind 0 first:\x01\x00\
+    kind 6 first:\x01\x06\
+    kind 255 later:\x03\x01\x01\xff\
+    no head first:\x01\x04\
+    second head:\x04\x01\x01\x01\x01\
+    second head, cut:\x03\x01\x01\x01\
+    end first:\x01\x05\
+    0 clocks:\x04\x01\x00\x04\x05\
+    1 clock:\x04\x01\x01\x04\x05\
+    6 clocks:\x04\x01\x06\x04\x05\
+    7 clocks:\x04\x01\x07\x04\x05\
+    reset of clock 0:\x06\x01\x01\x03\x00\x04\x05\
+    reset of clock 2 of 1:\x06\x01\x01\x03\x02\x04\x05\
+    guard on clock 0:\x09\x01\x01\x02\x00\x01\x00\x00\x04\x05\
+    guard on clock 2 of 1:\x09\x01\x01\x02\x02\x01\x00\x00\x04\x05\
+    relation 4:\x09\x01\x01\x02\x01\x04\x00\x00\x04\x05\
+    relation 5:\x09\x01\x01\x02\x01\x05\x00\x00\x04\x05\
+    constant 4000:\x09\x01\x01\x02\x01\x01\xa0\x0f\x04\x05\
+    constant 4001:\x09\x01\x01\x02\x01\x01\xa1\x0f\x04\x05\
+    constant 4096:\x09\x01\x01\x02\x01\x01\x00\x10\x04\x05\
+    constant 65535:\x09\x01\x01\x02\x01\x01\xff\xff\x04\x05\
+    no step:\x03\x01\x01\x05\
+    unfinished step, reset:\x06\x01\x01\x04\x03\x01\x05\
+    unfinished step, guard:\x09\x01\x01\x04\x02\x01\x01\x00\x00\x05\
+    a byte after the end:\x05\x01\x01\x04\x05\x00\
+    a record after the end:\x05\x01\x01\x04\x05\x04\
+    unfinished step and a tail:\x07\x01\x01\x04\x03\x01\x05\x00\
+    timer, then kind:\x05\x01\x01\x03\x02\x09\
+    kind, then timer:\x05\x01\x01\x09\x03\x02\
+    timer, relation and constant:\x09\x01\x01\x02\x02\x05\xff\xff\x04\x05\
+    relation and constant:\x09\x01\x01\x02\x01\x05\xff\xff\x04\x05\
+    no head first, and cut:\x01\x02\
+    reset before guard:\x0b\x01\x01\x03\x01\x02\x01\x03\x03\x00\x04\x05";
+
+// 01's samples among testkit's tables, as far as they differ for the reader.
+const SAMPLES: [usize; 7] = [1, 2, 6, 7, 9, 10, 11];
 
 // A name, and the answer on a table.
 fn show(name: &[u8], bytes: &[u8]) {
@@ -25,117 +73,55 @@ fn show(name: &[u8], bytes: &[u8]) {
     word(b"\n");
 }
 
-fn cut() {
-    show(b"empty", b"");
-    show(b"lone head kind", b"\x01");
-    show(b"head only", b"\x01\x01");
-    show(b"guard cut", b"\x01\x01\x02\x01\x01\x00");
-    show(b"reset cut", b"\x01\x01\x03");
-    show(b"no end", b"\x01\x01\x04");
+fn small() {
+    let tape = SMALL;
+    let mut case: usize = 1;
+    while case <= 39 {
+        show(name(&tape, case), table(&tape, case));
+        case += 1;
+    }
 }
 
-fn kinds() {
-    show(b"kind 0 first", b"\x00");
-    show(b"kind 6 first", b"\x06");
-    show(b"kind 255 later", b"\x01\x01\xff");
-    show(b"no head first", b"\x04");
-    show(b"second head", b"\x01\x01\x01\x01");
-    show(b"second head, cut", b"\x01\x01\x01");
-    show(b"end first", b"\x05");
-}
-
-fn clocks() {
-    show(b"0 clocks", b"\x01\x00\x04\x05");
-    show(b"1 clock", b"\x01\x01\x04\x05");
-    show(b"6 clocks", b"\x01\x06\x04\x05");
-    show(b"7 clocks", b"\x01\x07\x04\x05");
-    show(b"reset of clock 0", b"\x01\x01\x03\x00\x04\x05");
-    show(b"reset of clock 2 of 1", b"\x01\x01\x03\x02\x04\x05");
-    show(b"guard on clock 0", b"\x01\x01\x02\x00\x01\x00\x00\x04\x05");
-    show(
-        b"guard on clock 2 of 1",
-        b"\x01\x01\x02\x02\x01\x00\x00\x04\x05",
-    );
-}
-
-fn numbers() {
-    show(b"relation 4", b"\x01\x01\x02\x01\x04\x00\x00\x04\x05");
-    show(b"relation 5", b"\x01\x01\x02\x01\x05\x00\x00\x04\x05");
-    show(b"constant 4000", b"\x01\x01\x02\x01\x01\xa0\x0f\x04\x05");
-    show(b"constant 4001", b"\x01\x01\x02\x01\x01\xa1\x0f\x04\x05");
-    show(b"constant 4096", b"\x01\x01\x02\x01\x01\x00\x10\x04\x05");
-    show(b"constant 65535", b"\x01\x01\x02\x01\x01\xff\xff\x04\x05");
-}
-
-fn ends() {
-    show(b"no step", b"\x01\x01\x05");
-    show(b"unfinished step, reset", b"\x01\x01\x04\x03\x01\x05");
-    show(
-        b"unfinished step, guard",
-        b"\x01\x01\x04\x02\x01\x01\x00\x00\x05",
-    );
-    show(b"a byte after the end", b"\x01\x01\x04\x05\x00");
-    show(b"a record after the end", b"\x01\x01\x04\x05\x04");
-    show(
-        b"unfinished step and a tail",
-        b"\x01\x01\x04\x03\x01\x05\x00",
-    );
-}
-
-// The first fault counts; within a record, the order of the rows.
-fn two_faults() {
-    show(b"timer, then kind", b"\x01\x01\x03\x02\x09");
-    show(b"kind, then timer", b"\x01\x01\x09\x03\x02");
-    show(
-        b"timer, relation and constant",
-        b"\x01\x01\x02\x02\x05\xff\xff\x04\x05",
-    );
-    show(
-        b"relation and constant",
-        b"\x01\x01\x02\x01\x05\xff\xff\x04\x05",
-    );
-    show(b"no head first, and cut", b"\x02");
-    show(
-        b"reset before guard",
-        b"\x01\x01\x03\x01\x02\x01\x03\x03\x00\x04\x05",
-    );
+// The answer on a table that fills a room: a head, a pattern over and over, and a tail.
+fn long(name: &[u8], room: &mut [u8], head: &[u8], pattern: &[u8], tail: &[u8]) {
+    fill(&mut *room, head, pattern, tail);
+    show(name, &*room);
 }
 
 // One step of guards on a clock, the last of them perhaps on another.
 fn guards() {
+    let head = b"\x01\x01";
+    let guard = b"\x02\x01\x01\x00\x00";
     let mut most = [0u8; 324];
-    fill(&mut most, b"\x01\x01", b"\x02\x01\x01\x00\x00", b"\x04\x05");
-    show(b"64 guards", &most);
+    long(b"64 guards", &mut most, head, guard, b"\x04\x05");
     let mut more = [0u8; 329];
-    fill(&mut more, b"\x01\x01", b"\x02\x01\x01\x00\x00", b"\x04\x05");
-    show(b"65 guards", &more);
-    fill(
+    long(b"65 guards", &mut more, head, guard, b"\x04\x05");
+    let other = b"\x02\x09\x01\x00\x00\x04\x05";
+    long(
+        b"65 guards, the last on clock 9",
         &mut more,
-        b"\x01\x01",
-        b"\x02\x01\x01\x00\x00",
-        b"\x02\x09\x01\x00\x00\x04\x05",
+        head,
+        guard,
+        other,
     );
-    show(b"65 guards, the last on clock 9", &more);
 }
 
 // Steps with nothing in them.
 fn steps() {
     let mut most = [0u8; 19];
-    fill(&mut most, b"\x01\x01", b"\x04", b"\x05");
-    show(b"16 steps", &most);
+    long(b"16 steps", &mut most, b"\x01\x01", b"\x04", b"\x05");
     let mut more = [0u8; 20];
-    fill(&mut more, b"\x01\x01", b"\x04", b"\x05");
-    show(b"17 steps", &more);
+    long(b"17 steps", &mut more, b"\x01\x01", b"\x04", b"\x05");
 }
 
 // A step of as many resets of a clock as fill the longest table, and a byte after it.
-fn long() {
+fn longest() {
+    let head = b"\x01\x06";
+    let reset = b"\x03\x06";
     let mut most = [0u8; 4096];
-    fill(&mut most, b"\x01\x06", b"\x03\x06", b"\x04\x05");
-    show(b"4096 bytes", &most);
+    long(b"4096 bytes", &mut most, head, reset, b"\x04\x05");
     let mut more = [0u8; 4097];
-    fill(&mut more, b"\x01\x06", b"\x03\x06", b"\x04\x05\x03");
-    show(b"4097 bytes", &more);
+    long(b"4097 bytes", &mut more, head, reset, b"\x04\x05\x03");
 }
 
 // All proper prefixes of a table of three steps, and the whole of it.
@@ -149,25 +135,20 @@ fn prefixes() {
 }
 
 fn samples() {
-    show(b"S1", &testkit::S1);
-    show(b"S2", &testkit::S2);
-    show(b"S6", &testkit::S6);
-    show(b"S7", &testkit::S7);
-    show(b"S9", &testkit::S9);
-    show(b"S10", &testkit::S10);
-    show(b"S11", &testkit::S11);
+    let tape = testkit::TABLES;
+    let which = SAMPLES;
+    let mut i: usize = 0;
+    while i < 7 {
+        show(name(&tape, which[i]), table(&tape, which[i]));
+        i += 1;
+    }
 }
 
 fn main() {
-    cut();
-    kinds();
-    clocks();
-    numbers();
-    ends();
-    two_faults();
+    small();
     guards();
     steps();
-    long();
+    longest();
     prefixes();
     samples();
 }

@@ -1,6 +1,5 @@
 pub mod Lines
 pub mod Reports
-pub mod Accepted
 pub mod Unique
 pub mod Writes
 pub mod Whole

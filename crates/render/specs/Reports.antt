@@ -8,14 +8,13 @@ use lib.ListN.{length, drop}
 use Rattle.table.specs.declared.Read.{Read}
 use Rattle.table.specs.declared.Read.the-variants as read
 use Rattle.wire.specs.Reading.{readOf}
-use Rattle.wire.specs.Listing.{listing, cycle}
-use Rattle.runs.specs.Run.{copies}
-use Rattle.runs.specs.Demand.{anyStarts}
+use Rattle.asking.specs.Rounds.{clocksOf, cycleOf}
 use Rattle.rounds.specs.declared.Count.{Count}
 use Rattle.rounds.specs.declared.Count.the-variants.{Finite, Endless, Refused}
 use Rattle.rounds.specs.Answer.{Counts}
-use Rattle.plan.specs.Planned.{Planned}
-use Rattle.render.specs.Lines.{countedLine, refusalLine, countLine, planLines}
+use Rattle.plan_lines.specs.PlanLines.{planLines}
+use Rattle.plan_report.specs.Found.{PlannedIn}
+use Rattle.render.specs.Lines.{countedLine, refusalLine, countLine}
 
 -- How many rounds are planned: 2, or as many as the count where it is smaller.
 unfoldable pub plannedOf : Count → ℕ
@@ -32,17 +31,13 @@ restLines n L (suc k) t s = planLines (suc k * L + n + 1) n L (suc k * L) t s
 unfoldable pub reportOf : ℕ → ℕ → ℕ → Count → (ℕ → ℕ) → (ℕ → ℕ) → List ℕ
 reportOf n L g r t s = countedLine n L g ++ countLine r ++ restLines n L (plannedOf r) t s
 
--- t and s are the plan, in kL + n + 1 parts to a tick, of k rounds of the table that the bytes write down
-abbrev pub PlannedIn : List ℕ → ℕ → ℕ → ℕ → (ℕ → ℕ) → (ℕ → ℕ) → Type 0
-PlannedIn bytes n L k t s = Planned (k * L + n + 1) n (copies (cycle (listing bytes)) k) anyStarts t s
-
 -- A text reports on accepted bytes, with n clocks, L steps and g guards: the count is that of the table they write down,
 -- and where rounds are planned the moments and starts are their plan.
 pub record Tells (bytes : List ℕ) (n L g : ℕ) (text : List ℕ) : Type 0 where
   pub count : Count
   pub moments : ℕ → ℕ
   pub starts : ℕ → ℕ
-  pub counts : Counts (listing bytes .clocks) (cycle (listing bytes)) count
+  pub counts : Counts (clocksOf bytes) (cycleOf bytes) count
   pub planned : 1 ≤ plannedOf count → PlannedIn bytes n L (plannedOf count) moments starts
   pub lines : text ≡ reportOf n L g count moments starts
 

@@ -9,52 +9,18 @@ use Rattle.table.specs.Step.{Step}
 use Rattle.table.specs.declared.Read.{Read}
 use Rattle.table.specs.declared.Read.the-variants as read
 use Rattle.wire.specs.Reading.{readOf}
-use Rattle.format.specs.Found.{Bytes}
-use Rattle.runs.specs.Run.{copies, Goes}
-use Rattle.runs.specs.Demand.{anyStarts, Exists}
-use Rattle.runs.specs.Allowed.{any-allowed}
+use Rattle.wire.specs.Records.{Bytes}
+use Rattle.asking.specs.Rounds.{roundsIn}
+use Rattle.runs.specs.Demand.{anyStarts}
 use Rattle.rounds.specs.declared.Count.{Count}
-use Rattle.rounds.specs.declared.Count.the-variants.{Finite, Endless, Refused}
-use Rattle.rounds.specs.Answer.{Allows, Counts}
+use Rattle.rounds.specs.Answer.{Counts}
+use Rattle.rounds.specs.One.{counts-unique}
 use Rattle.plan.specs.Same.{planned-unique}
-use Rattle.render.specs.Lines.{countedLine, countLine, partsLine, startLine, stepLine}
-use Rattle.render.specs.Lines.{startLines, stepLines, planLines}
-use Rattle.render.specs.Reports.{plannedOf, restLines, reportOf, PlannedIn, Tells, TellsOf, Reports, Stands, Reported}
-use Rattle.render.specs.Accepted.{roundsIn, Tabled, tabled}
-
--- ---- the count
--- no round has a run
-none-exists : (n : ℕ) (τ : List Step) → Exists n anyStarts (copies τ 0)
-unfolding copies
-none-exists n τ =
-    record {
-      parts = 1;
-      positive = omega arith;
-      moments = λ i. 0;
-      starts = λ j. 0;
-      allowed = any-allowed 1 n (λ j. 0);
-      run = record { start = refl; goes = Goes.done };
-    }
-
-module _ (n : ℕ) (τ : List Step) where
-  -- what one count allows, the other allows
-  allows : (r r′ : Count) → Counts n τ r → Counts n τ r′ → (k : ℕ) → Allows r k → Allows r′ k
-  allows r r′ c c′ k a = c′ .runs k .0 (c .runs k .1 a)
-
-  pub counts-unique : (r r′ : Count) → Counts n τ r → Counts n τ r′ → r ≡ r′
-  counts-unique (Finite a) (Finite b) c c′ = ap Finite (omega (arith, up, down))
-    where
-      up : a ≤ b
-      up = allows (Finite a) (Finite b) c c′ a (omega arith)
-
-      down : b ≤ a
-      down = allows (Finite b) (Finite a) c′ c b (omega arith)
-  counts-unique (Finite a) Endless c c′ = absurd (omega (arith, allows Endless (Finite a) c′ c (suc a) tt))
-  counts-unique Endless (Finite b) c c′ = absurd (omega (arith, allows Endless (Finite b) c c′ (suc b) tt))
-  counts-unique Endless Endless c c′ = refl
-  counts-unique (Refused f) r c c′ = absurd (c .runs 0 .0 (none-exists n τ))
-  counts-unique (Finite a) (Refused f) c c′ = absurd (c′ .runs 0 .0 (none-exists n τ))
-  counts-unique Endless (Refused f) c c′ = absurd (c′ .runs 0 .0 (none-exists n τ))
+use Rattle.plan_lines.specs.PlanLines.{partsLine, startLine, stepLine, startLines, stepLines, planLines}
+use Rattle.plan_report.specs.Accepted.{Tabled, tabled}
+use Rattle.plan_report.specs.Found.{PlannedIn}
+use Rattle.render.specs.Lines.{countedLine, countLine}
+use Rattle.render.specs.Reports.{plannedOf, restLines, reportOf, Tells, TellsOf, Reports, Stands, Reported}
 
 -- ---- the lines of equal plans
 starts-same : (s r : ℕ → ℕ) (n : ℕ) → ((j : ℕ) → 0 < j → j ≤ n → s j ≡ r j) → startLines s n ≡ startLines r n

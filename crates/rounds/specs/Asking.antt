@@ -9,10 +9,10 @@ use Rattle.table.specs.declared.Table.{Table}
 use Rattle.table.specs.Step.{Step, stepsOf, Good}
 use Rattle.wire.specs.Reading.{readOf}
 use Rattle.wire.specs.Listing.{listing}
-use Rattle.wire.specs.Fill.{tableOf}
-use Rattle.format.specs.Found.{Bytes}
-use Rattle.format.specs.Represent.{Represents}
-use Rattle.format.specs.Meaning.{table-represents}
+use Rattle.decode.specs.Fill.{tableOf}
+use Rattle.wire.specs.Records.{Bytes}
+use Rattle.decode.specs.Represent.{Represents}
+use Rattle.decode.specs.Meaning.{table-represents}
 use Rattle.rounds.specs.declared.Count.{Count}
 use Rattle.rounds.specs.declared.Count.the-variants.{Refused}
 use Rattle.rounds.specs.Answer.{Counts, Answers}

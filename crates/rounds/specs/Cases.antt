@@ -7,15 +7,14 @@ use native.Mathlib.Omega.{arith}
 use native.Mathlib.Numerals.{add-one}
 use Rattle.table.specs.Step.{Step}
 use Rattle.runs.specs.Run.{copies}
-use Rattle.runs.specs.Copies.{fairs-copies}
 use Rattle.zones.specs.Matrix.{Matrix}
 use Rattle.zones.specs.Extend.{solve}
 use Rattle.zones.specs.Cells.{matrix}
-use Rattle.effects.specs.Begins.{Begins, no-run, begins-is}
+use Rattle.effects.specs.Begins.{Begins, no-run, effect-begins}
 use Rattle.effects.specs.Settle.{settled}
 use Rattle.effects.specs.Count.{unending}
-use Rattle.effects.specs.Climb.{twice, known-top, known-more, known-same}
-use Rattle.joins.specs.Tells.{Tells}
+use Rattle.effects.specs.Known.{twice, known-top, known-more, known-same}
+use Rattle.effects.specs.Tells.{Tells}
 use Rattle.rounds.specs.LeftPart.{SameLeft, same-tight}
 use Rattle.rounds.specs.Climbing.{Free, Rounds, Counted, Climbs, power-some, power-double}
 
@@ -24,10 +23,10 @@ clash b p q = let z : _≡_ {A = ℕ} 0 1 = cc in omega arith
 
 module _ (D : Matrix) (free : Free D) {τ : List Step} where
   -- Rounds that have an effect run from some start.
-  effect-begins : {k : ℕ} {cells : List ℕ} → Rounds τ k cells → Begins D (copies τ k)
-  effect-begins {k} {cells} h =
-      begins-is D (copies τ k) (matrix cells) (fairs-copies τ k (h .table .fair)) (h .describes) (matrix cells)
-      (record { is = λ P x p. ((λ s. (s, free P x p)), λ s. s .0) }) .0 (solve 14 (matrix cells) (h .describes .closed))
+  rounds-begin : {k : ℕ} {cells : List ℕ} → Rounds τ k cells → Begins D (copies τ k)
+  rounds-begin {cells = cells} h =
+      let (P, p, (x, s)) = solve 14 (matrix cells) (h .describes .closed) in
+      effect-begins D (h .describes) P x p s (free P x p)
 
   module _ (i p : ℕ) (e : p ≡ 2 ^ i) {E : List ℕ} (h : Rounds τ p E) where
     module _ (up : Bool) (on : up ≡ true) (c : ℕ) (z : List ℕ) where
@@ -39,14 +38,14 @@ module _ (D : Matrix) (free : Free D) {τ : List Step} where
       pub climbs-limit : i ≡ 24 → Climbs D τ i up c z
       climbs-limit q =
           climbs-all
-          (unending D τ (h .table .fair) (h .table .some) (rw (e ∙ ap (λ n. 2 ^ n) q) at (effect-begins h)))
+          (unending D τ (h .table .fair) (h .table .some) (rw (e ∙ ap (λ n. 2 ^ n) q) at (rounds-begin h)))
 
       -- and where more rounds leave the left part as it is.
       pub climbs-settled : (n : ℕ) (F : List ℕ) → p < n → Rounds τ n F → SameLeft E F → Climbs D τ i up c z
       climbs-settled n F l g s =
           climbs-all
           (settled τ (h .table .fair) p n l (matrix E) (matrix F) (h .describes) (g .describes) (same-tight s) D
-          (effect-begins h))
+          (rounds-begin h))
 
     -- Where twice as many rounds do not run, it counts these;
     pub climbs-top : i < 24 → (ok : Bool) (z : List ℕ) → Tells (copies τ (p + p)) ok z → ok ≡ false
@@ -54,7 +53,7 @@ module _ (D : Matrix) (free : Free D) {τ : List Step} where
     climbs-top l ok z t n = record {
       on = λ q. absurd (clash false q refl);
       counted = λ q. record {
-        known = rw e (known-top D τ i (rw e at (effect-begins h)) (no-run D (rw e at (t .stuck n))));
+        known = rw e (known-top D τ i (rw e at (rounds-begin h)) (no-run D (rw e at (t .stuck n))));
         effect = h;
         some = power-some i p e;
         small = omega (arith, power-double i p l e);
@@ -75,7 +74,7 @@ module _ (D : Matrix) (free : Free D) {τ : List Step} where
         climbs-more q = record {
           on = λ t. absurd (clash false t refl);
           counted = λ _. record {
-            known = rw e (known-more D τ i c (k .known) (rw e at (effect-begins more)));
+            known = rw e (known-more D τ i c (k .known) (rw e at (rounds-begin more)));
             effect = more;
             some = omega (arith, k .some);
             small = omega (arith, k .small, twice i);

@@ -17,8 +17,8 @@ use Rattle.zones.specs.Cells.{matrix, answer}
 use Rattle.effects.specs.Describes.{Describes}
 use Rattle.effects.specs.Begins.{Begins}
 use Rattle.effects.specs.Count.{limit}
-use Rattle.effects.specs.Climb.{Known, twice}
-use Rattle.joins.specs.Tells.{Tells, Sized, effect-within}
+use Rattle.effects.specs.Known.{Known, twice}
+use Rattle.effects.specs.Tells.{Tells, Sized, effect-within}
 use Rattle.joins.specs.Joining.{joinOf, join-tells}
 
 -- D allows every start.

@@ -7,6 +7,7 @@ use Prim.Native.Nat.{ℕ, _<_}
 use native.Mathlib.Omega.{arith}
 use Rattle.table.specs.declared.Table.{Table}
 use Rattle.table.specs.Step.{Step, Fair, stepsOf, Good}
+use Rattle.table.specs.Steps.{length-steps}
 use Rattle.runs.specs.Run.{copies}
 use Rattle.runs.specs.Demand.{Holds, anyStarts, Exists}
 use Rattle.runs.specs.Allowed.{any-places}
@@ -15,10 +16,9 @@ use Rattle.zones.specs.Matrix.{Matrix}
 use Rattle.effects.specs.Demands.{each, every-each, matrix-is}
 use Rattle.effects.specs.Begins.{Begins, no-run}
 use Rattle.effects.specs.Count.{limit}
-use Rattle.effects.specs.Climb.{rounds-one, Known, known-none, known-count}
-use Rattle.effects.specs.Rounds.{startMatrix, permits, exists-begins, rounds-exist, any-exists}
-use Rattle.joins.specs.Tells.{Tells}
-use Rattle.joins.specs.Round.{steps-length}
+use Rattle.effects.specs.Known.{rounds-one, Known, known-none, known-count}
+use Rattle.effects.specs.Starts.{startMatrix, permits, exists-begins, rounds-exist, any-exists}
+use Rattle.effects.specs.Tells.{Tells}
 use Rattle.rounds.specs.declared.Count.the-variants.{Finite, Endless}
 use Rattle.rounds.specs.Answer.{Counts}
 use Rattle.rounds.specs.Climbing.{Free, Tabled, Rounds, Climbs}
@@ -27,8 +27,8 @@ use Rattle.rounds.specs.Climbing.{Free, Tabled, Rounds, Climbs}
 pub good-tabled : (t : Table) → Good t → Tabled (stepsOf t)
 good-tabled t good = record {
   fair = good .fair;
-  some = omega (arith, steps-length t, good .steps-some);
-  few = omega (arith, steps-length t, good .steps-few);
+  some = omega (arith, length-steps t, good .steps-some);
+  few = omega (arith, length-steps t, good .steps-few);
 }
 
 -- ---- Any start

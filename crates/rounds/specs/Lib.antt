@@ -1,5 +1,6 @@
 -- what is answered
 pub mod Answer
+pub mod One
 -- the search
 pub mod LeftPart
 pub mod Climbing

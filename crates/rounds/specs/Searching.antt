@@ -12,7 +12,7 @@ use Rattle.zones.specs.Matrix.{Matrix}
 use Rattle.zones.specs.Linear.{AllWithin}
 use Rattle.zones.specs.Cells.{matrix, answer}
 use Rattle.effects.specs.Count.{limit}
-use Rattle.joins.specs.Tells.{Tells}
+use Rattle.effects.specs.Tells.{Tells}
 use Rattle.joins.specs.Joining.{joinOf}
 use Rattle.rounds.specs.LeftPart.{SameLeft}
 use Rattle.rounds.specs.Climbing.{Free, anywhere, anywhere-free, Rounds, Counted, Climbs}
@@ -23,6 +23,11 @@ use Rattle.rounds.specs.Cases.{climbs-limit, climbs-settled, climbs-top,
 -- What the search finds for every table of which the cells are the effect of p rounds, from any start.
 pub record Searched (i p : ℕ) (cells : List ℕ) (endless : Bool) (c : ℕ) (found : List ℕ) : Type 0 where
   pub finds : (D : Matrix) → Free D → (τ : List Step) → Rounds τ p cells → Climbs D τ i endless c found
+
+-- It finds a count.
+pub searched-is : {i p : ℕ} {E : List ℕ} {c : ℕ} {z : List ℕ} → Searched i p E false c z
+    → (up : Bool) (d : ℕ) (y : List ℕ) → (up ≡ false) × (d ≡ c) × (y ≡ z) → Searched i p E up d y
+searched-is h up d y e = rw (e .0, e .1, e .2) h
 
 -- The cells are the effect of p rounds of some table.
 abbrev pub OfRounds : ℕ → List ℕ → Type 0

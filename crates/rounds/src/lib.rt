@@ -1,13 +1,13 @@
 // The question "rounds": how many rounds of a table have a run.
+use decode::parse;
 use joins::join;
 use joins::round_effect;
 use table::Read;
 use table::Refusal;
 use table::Table;
-use wire::parse;
 use zones::Matrix;
 ghost use mathlib.Core.Path.{_≡_};
-ghost use mathlib.Core.Bool.{true};
+ghost use mathlib.Core.Bool.{true, false};
 ghost use mathlib.Core.Logic.{_↔_};
 ghost use Prim.Native.Nat.{_≤_, _^_};
 ghost use Rattle.table.specs.Step.{stepsOf, Good};
@@ -41,6 +41,17 @@ fn without_end(e: Matrix) -> Climbed
     }
 }
 
+// That so many rounds have a run, with their effect.
+fn counted(count: u64, zone: Matrix) -> Climbed
+    ensures { λ r. ⌜ (r .endless ≡ false) × (r .count ≡ count) × (r .zone .cells ≡ zone .cells) ⌝ }
+{
+    Climbed {
+        endless: false,
+        count: count,
+        zone: zone,
+    }
+}
+
 // Whether the left parts of two effects, the cells among vertices 0 to 6, are the same.
 fn same_left(a: Matrix, b: Matrix) -> bool
     ensures { λ r. ⌜ (r ≡ true) ↔ SameLeft (a .cells) (b .cells) ⌝ }
@@ -67,11 +78,7 @@ fn climb(e: Matrix, i: u64, power: u64) -> Climbed
     }
     let twice = join(e, e);
     if !twice.ok {
-        return Climbed {
-            endless: false,
-            count: power,
-            zone: e,
-        };
+        return counted(power, e);
     }
     let double = twice.zone;
     if same_left(e, double) {
@@ -87,11 +94,7 @@ fn climb(e: Matrix, i: u64, power: u64) -> Climbed
         return above;
     }
     let zone = more.zone;
-    Climbed {
-        endless: false,
-        count: above.count + power,
-        zone,
-    }
+    counted(above.count + power, zone)
 }
 
 // The count of an accepted table.

@@ -1,9 +1,16 @@
 // Counts the rounds of tables, and prints each answer.
 use rounds::Count;
 use testkit::field;
+use testkit::name;
 use testkit::refusal;
+use testkit::table;
 use testkit::title;
 use testkit::word;
+
+// The constants of the leads: their low bytes and their high bytes.
+const LOW: [u8; 11] = [0, 1, 2, 3, 4, 7, 8, 15, 16, 255, 160];
+
+const HIGH: [u8; 11] = [0, 0, 0, 0, 0, 0, 0, 0, 0, 3, 15];
 
 // A name, and the answer on a table.
 fn show(name: &[u8], bytes: &[u8]) {
@@ -17,23 +24,14 @@ fn show(name: &[u8], bytes: &[u8]) {
     word(b"\n");
 }
 
+// 01's samples, a bare step, and no table.
 fn samples() {
-    show(b"S1", &testkit::S1);
-    show(b"S2", &testkit::S2);
-    show(b"S3", &testkit::S3);
-    show(b"S4", &testkit::S4);
-    show(b"S5", &testkit::S5);
-    show(b"S6", &testkit::S6);
-}
-
-fn more_samples() {
-    show(b"S7", &testkit::S7);
-    show(b"S8", &testkit::S8);
-    show(b"S9", &testkit::S9);
-    show(b"S10", &testkit::S10);
-    show(b"S11", &testkit::S11);
-    show(b"a bare step", b"\x01\x01\x04\x05");
-    show(b"no table", b"\x01\x01\x05");
+    let tape = testkit::TABLES;
+    let mut case: usize = 1;
+    while case <= 13 {
+        show(name(&tape, case), table(&tape, case));
+        case += 1;
+    }
 }
 
 // x at least 1, y at most or under a constant, x is reset: each round takes a tick, and the constant stops them.
@@ -42,38 +40,14 @@ fn lead(relation: u8, low: u8, high: u8) {
     show(b"lead", &bytes);
 }
 
-fn at_most() {
-    lead(1, 0, 0);
-    lead(1, 1, 0);
-    lead(1, 2, 0);
-    lead(1, 3, 0);
-    lead(1, 4, 0);
-    lead(1, 7, 0);
-    lead(1, 8, 0);
-}
-
-fn at_most_more() {
-    lead(1, 15, 0);
-    lead(1, 16, 0);
-    lead(1, 255, 3);
-    lead(1, 160, 15);
-}
-
-fn under() {
-    lead(0, 0, 0);
-    lead(0, 1, 0);
-    lead(0, 2, 0);
-    lead(0, 3, 0);
-    lead(0, 4, 0);
-    lead(0, 7, 0);
-    lead(0, 8, 0);
-}
-
-fn under_more() {
-    lead(0, 15, 0);
-    lead(0, 16, 0);
-    lead(0, 255, 3);
-    lead(0, 160, 15);
+fn leads(relation: u8) {
+    let low = LOW;
+    let high = HIGH;
+    let mut i: usize = 0;
+    while i < 11 {
+        lead(relation, low[i], high[i]);
+        i += 1;
+    }
 }
 
 // Six clocks and sixteen steps, each of which waits for a clock and resets it; the last also bounds clock 6.
@@ -86,11 +60,8 @@ fn wide(name: &[u8], relation: u8, constant: u8) {
 
 fn main() {
     samples();
-    more_samples();
-    at_most();
-    at_most_more();
-    under();
-    under_more();
+    leads(1);
+    leads(0);
     wide(b"six clocks, sixteen steps, at least 0", 3, 0);
     wide(b"six clocks, sixteen steps, at most 0", 1, 0);
 }

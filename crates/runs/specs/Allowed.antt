@@ -6,7 +6,7 @@ use mathlib.Core.List.{List·Memᴰ, List·Memᴰ·not-nil}
 use Prim.Native.Nat.{ℕ, zero, suc, _+_, _*_, _≤_, _<_, min}
 use native.Mathlib.Omega.{arith}
 use native.Mathlib.Decide.{decLe}
-use native.Mathlib.Nat.{mul-le-mul-left, mul-le-mul-right}
+use native.Mathlib.Nat.{mul-le-mul-right}
 use Rattle.runs.specs.declared.Demand.{Demand}
 use Rattle.runs.specs.Demand.{Within, Holds, Starts, anyStarts, back, Suits, Allowed, Places}
 use Rattle.runs.specs.Tools.{Every}
@@ -48,27 +48,6 @@ allowed-holds P n D s y f h = (
   (λ k j p l d m. suits-holds P n s y d h (f j p l d m) .0 (k .allowed j p l d m)),
   λ k. record { allowed = λ j p l d m. suits-holds P n s y d h (f j p l d m) .1 (k j p l d m) },
 )
-
--- ---- from P parts to a * P
-within-scale : (b : Bool) (a u v : ℕ) → 0 < a → Within b u v → Within b (a * u) (a * v)
-within-scale true a u v p h = omega (arith, mul-le-mul-left a h)
-within-scale false a u v p h = mul-le-mul-left a h
-
-back-scale : (a : ℕ) (s : ℕ → ℕ) (j : ℕ) → back (λ k. a * s k) j ≡ a * back s j
-back-scale a s zero = omega arith
-back-scale a s (suc j) = refl
-
-side-scale : (a P : ℕ) (s : ℕ → ℕ) (j c : ℕ) → back (λ k. a * s k) j + c * (a * P) ≡ a * (back s j + c * P)
-side-scale a P s j c = omega (arith, back-scale a s j)
-
--- Allowed starting readings in P parts are allowed in a * P parts.
-pub allowed-scale : (a P : ℕ) (D : Starts) (n : ℕ) (s : ℕ → ℕ) → 0 < a
-    → Allowed P D n s → Allowed (a * P) D n (λ j. a * s j)
-allowed-scale a P D n s p h = record { allowed = λ j q l d m. suits d (h .allowed j q l d m) }
-  where
-    suits : (d : Demand) → Suits P s d → Suits (a * P) (λ j. a * s j) d
-    suits d w =
-        rw (side-scale a P s (d .from) (d .down), side-scale a P s (d .to) (d .up)) (within-scale (d .strict) a _ _ p w)
 
 -- ---- starting readings cut to 4001 ticks
 abbrev pub cut : ℕ → (ℕ → ℕ) → ℕ → ℕ

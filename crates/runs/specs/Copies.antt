@@ -9,8 +9,8 @@ use native.Mathlib.Nat.{mod-eq-of-lt, add-mod-left}
 use lib.ListN.{length, getD, length-append, List·getD-append}
 use lib.Seq.{getD-append-add}
 use Rattle.table.specs.Step.{Step, Fairs}
-use Rattle.runs.specs.Run.{copies}
-use Rattle.runs.specs.Demand.{Clocks}
+use Rattle.runs.specs.Run.{copies, done}
+use Rattle.runs.specs.Demand.{Starts, Allowed, Exists, Clocks}
 
 pub copies-zero : (σ : List Step) → copies σ 0 ≡ []
 unfolding copies
@@ -19,6 +19,19 @@ copies-zero σ = refl
 pub copies-suc : (σ : List Step) (k : ℕ) → copies σ (suc k) ≡ σ ++ copies σ k
 unfolding copies
 copies-suc σ k = refl
+
+-- no rounds run, from every allowed start
+pub exists-none : (n : ℕ) (D : Starts) (σ : List Step) (P : ℕ) (s : ℕ → ℕ) → 0 < P → Allowed P D n s → Exists n D (copies σ 0)
+unfolding copies
+exists-none n D σ P s p a =
+    record {
+      parts = P;
+      positive = p;
+      moments = λ i. 0;
+      starts = s;
+      allowed = a;
+      run = record { start = refl; goes = done };
+    }
 
 -- one round is the table
 pub copies-one : (σ : List Step) → copies σ 1 ≡ σ

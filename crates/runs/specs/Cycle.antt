@@ -7,7 +7,8 @@ use native.Mathlib.Omega.{arith}
 use lib.ListN.{length, getD}
 use Rattle.runs.specs.declared.Demand.{Demand}
 use Rattle.runs.specs.Loop.{Link, Tightest, Along, last, then, Distinct, total, Loop}
-use Rattle.runs.specs.Tools.{sum, sum-first, Every, every-cons}
+use Rattle.basics.specs.Numbers.{sum, sum-first}
+use Rattle.runs.specs.Tools.{Every, every-cons}
 use Rattle.runs.specs.Parts.{gain, loss, parts-negative, tight-parts}
 use Rattle.runs.specs.Tighten.{tightest}
 

@@ -2,6 +2,7 @@
 use mathlib.Core.Bool.{Bool, true, false}
 use mathlib.Core.List.{List, [], _∷_, _++_, map, List·Memᴰ}
 use Prim.Native.Nat.{ℕ, zero, suc, _+_, _*_, _≤_, _<_}
+use lib.IntN.{ℤ, pos, _-ℤ_}
 use lib.ListN.{length}
 use Rattle.table.specs.Step.{Step}
 use Rattle.table.specs.declared.Guard.{Guard}
@@ -18,6 +19,10 @@ Within false a b = a ≤ b
 -- it holds of a row of times x, one for each moment, in P parts to a tick
 pub record Holds (P : ℕ) (x : ℕ → ℕ) (d : Demand) : Type 0 where
   pub holds : Within (d .strict) (x (d .to) + d .down * P) (x (d .from) + d .up * P)
+
+-- its bound, in ticks
+abbrev pub ticksOf : Demand → ℤ
+ticksOf d = pos (d .up) -ℤ pos (d .down)
 
 -- "from a to b of c" and "from a to b of −c"
 abbrev pub plus : ℕ → ℕ → ℕ → Bool → Demand

@@ -8,7 +8,7 @@ pub mod Steps
 pub mod Replay
 pub mod Readings
 pub mod RunSteps
--- rounds, other parts, fewer steps, starts
+-- rounds, order, starts
 pub mod Copies
 pub mod RunLaws
 pub mod Allowed

@@ -7,7 +7,7 @@ use Rattle.table.specs.Step.{Step}
 use Rattle.runs.specs.declared.Demand.{Demand}
 use Rattle.runs.specs.Demand.{Starts, demands, Exists, Clocks, Places}
 use Rattle.runs.specs.Loop.{Link, Tightest, Along, last, then, total, Loop}
-use Rattle.runs.specs.Tools.{top, top-ge}
+use Rattle.basics.specs.Numbers.{top, top-ge}
 use Rattle.runs.specs.Satisfies.{Satisfies}
 use Rattle.runs.specs.Rows.{rowAt, run-row}
 use Rattle.runs.specs.Parts.{gain, loss, holds-parts, negative-parts}

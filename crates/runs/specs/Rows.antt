@@ -10,10 +10,11 @@ use Rattle.table.specs.Step.{Step}
 use Rattle.runs.specs.Run.{Run}
 use Rattle.runs.specs.Demand.{Holds, stepsDemands, Starts, moment, moved, startDemands, demands}
 use Rattle.runs.specs.Demand.{Allowed, Clocks, Places}
-use Rattle.runs.specs.Tools.{sel, sel-yes, sel-no, Every, every-append}
+use Rattle.basics.specs.Choice.{choose, choose-yes, choose-no}
+use Rattle.runs.specs.Tools.{Every, every-append}
 use Rattle.runs.specs.Satisfies.{Satisfies, StartHolds, start-satisfies}
 use Rattle.runs.specs.Allowed.{Agrees, allowed-holds}
-use Rattle.runs.specs.RowSteps.{Placed, goes-satisfies, satisfies-goes, rising}
+use Rattle.runs.specs.RowSteps.{Placed, goes-satisfies, satisfies-goes}
 
 -- x is a row of times for K moments t after the start, and for the last resets before it of n clocks with readings s.
 pub record Row (K n : ℕ) (t s x : ℕ → ℕ) : Type 0 where
@@ -70,17 +71,17 @@ run-satisfies P n σ D t s x f g r = (there, back-again)
 -- ---- from a run to a row
 -- the row with the start at time S
 pub rowAt : ℕ → ℕ → (ℕ → ℕ) → (ℕ → ℕ) → ℕ → ℕ
-rowAt S K t s i = sel (decLe i K) (S + t i) (S - s (i - K))
+rowAt S K t s i = choose (decLe i K) (S + t i) (S - s (i - K))
 
 pub row-now : (S K : ℕ) (t s : ℕ → ℕ) (i : ℕ) → i ≤ K → rowAt S K t s i ≡ S + t i
 unfolding rowAt
-row-now S K t s i l = sel-yes (decLe i K) (S + t i) (S - s (i - K)) l
+row-now S K t s i l = choose-yes (decLe i K) (S + t i) (S - s (i - K)) l
 
 pub row-past : (S K : ℕ) (t s : ℕ → ℕ) (j : ℕ) → 0 < j → rowAt S K t s (K + j) ≡ S - s j
 unfolding rowAt
 row-past S K t s j p =
     let e : K + j - K ≡ j = omega arith in
-    sel-no (decLe (K + j) K) (S + t (K + j)) (S - s (K + j - K)) (omega arith) ∙ rw e
+    choose-no (decLe (K + j) K) (S + t (K + j)) (S - s (K + j - K)) (omega arith) ∙ rw e
 
 -- it is a row of the run if the start is late enough
 pub row-is : (S K n : ℕ) (t s : ℕ → ℕ) → t 0 ≡ 0 → ((j : ℕ) → 0 < j → j ≤ n → s j ≤ S) → Row K n t s (rowAt S K t s)
@@ -96,28 +97,3 @@ pub run-row : (P S n : ℕ) (σ : List Step) (D : Starts) (t s : ℕ → ℕ) �
     → Run P σ t s → Allowed P D n s → Satisfies P (rowAt S (length σ) t s) (demands n σ D)
 run-row P S n σ D t s f g b r a =
     run-satisfies P n σ D t s (rowAt S (length σ) t s) f g (row-is S (length σ) n t s (r .start) b) .0 (r, a)
-
--- ---- from a row to a run
-satisfies-row : (P n : ℕ) (σ : List Step) (D : Starts) (x : ℕ → ℕ) → Satisfies P x (demands n σ D)
-    → Row (length σ) n (λ i. x i - x 0) (λ j. x 0 - x (length σ + j)) x
-unfolding demands
-satisfies-row P n σ D x h =
-    record {
-      now = λ i l. omega (arith, later i l);
-      past = λ j p l. omega (arith, start-satisfies P x K D 1 n .1 (parts .1) j p (omega arith) .0);
-    }
-  where
-    K : ℕ
-    K = length σ
-
-    parts : Satisfies P x (stepsDemands σ 0 (λ j. K + j)) × Satisfies P x (startDemands K D 1 n)
-    parts = every-append (Holds P x) (stepsDemands σ 0 (λ j. K + j)) (startDemands K D 1 n) .0 h
-
-    later : (i : ℕ) → i ≤ K → x 0 ≤ x i
-    later i l = let e : 0 + i ≡ i = omega arith in rw e at (rising P x σ 0 (λ j. K + j) (parts .0) i l)
-
--- Times that satisfy the demands are a run from an allowed start.
-pub row-run : (P n : ℕ) (σ : List Step) (D : Starts) (x : ℕ → ℕ) → Clocks n σ → Places n D
-    → Satisfies P x (demands n σ D)
-    → Run P σ (λ i. x i - x 0) (λ j. x 0 - x (length σ + j)) × Allowed P D n (λ j. x 0 - x (length σ + j))
-row-run P n σ D x f g h = run-satisfies P n σ D _ _ x f g (satisfies-row P n σ D x h) .1 h

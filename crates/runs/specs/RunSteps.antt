@@ -10,7 +10,7 @@ use Rattle.runs.specs.Run.{zeroed, Passes, Goes, done, next, Run}
 use Rattle.runs.specs.Steps.{Config, Old, Met, Move, Steps, stay, move, fairs-head, fairs-tail, same-refl}
 use Rattle.runs.specs.Steps.{move-old, after, after-now, after-reset, after-kept}
 use Rattle.runs.specs.Readings.{ResetAt, met-reading, zeroed-cases}
-use Rattle.runs.specs.Tools.{top, top-ge}
+use Rattle.basics.specs.Numbers.{top, top-ge}
 
 -- the configuration u is a start with the readings s
 abbrev pub Starting : (ℕ → ℕ) → Config → Type 0

@@ -1,8 +1,8 @@
 -- A run step by step: what a list of steps does to a configuration.
 use mathlib.Core.Path.{_≡_, refl, ap, sym}
-use mathlib.Core.Logic.{_⊎_, inl, inr, ⊎-elim}
+use mathlib.Core.Logic.{_⊎_, inl, inr}
 use mathlib.Core.Bool.{Bool, true, false, cond}
-use mathlib.Core.List.{List, [], _∷_, _++_, List·Memᴰ, List·Memᴰ·head, List·Memᴰ·tail, List·Memᴰ·append-cases}
+use mathlib.Core.List.{List, [], _∷_, _++_, List·Memᴰ, List·Memᴰ·head, List·Memᴰ·tail}
 use Prim.Native.Nat.{ℕ, zero, suc, _+_, _*_, _≤_, _<_}
 use native.Mathlib.Omega.{arith}
 use native.Mathlib.Nat.{mul-le-mul-left}
@@ -56,9 +56,6 @@ fairs-head {s} f = f s (List·Memᴰ·head refl)
 pub fairs-tail : {s : Step} {σ : List Step} → Fairs (s ∷ σ) → Fairs σ
 fairs-tail f c i = f c (List·Memᴰ·tail i)
 
-pub fairs-append : (σ τ : List Step) → Fairs σ → Fairs τ → Fairs (σ ++ τ)
-fairs-append σ τ f g c i = ⊎-elim (f c) (g c) (List·Memᴰ·append-cases σ i)
-
 -- ---- only places below 7 matter
 pub same-refl : (u : Config) → Same u u
 same-refl u a l = refl
@@ -94,11 +91,6 @@ steps-split P [] τ {u} r = (u, stay (same-refl u), r)
 steps-split P (s ∷ σ) τ (move m r) = let t = steps-split P σ τ r in (t .0, move m (t .1), t .2)
 
 -- ---- time never goes back
--- Now does not move back.
-pub steps-later : (P : ℕ) {σ : List Step} {u v : Config} → Steps P σ u v → u 0 ≤ v 0
-steps-later P (stay r) = omega (arith, r 0 (omega arith))
-steps-later P (move m r) = omega (arith, m .later, steps-later P r)
-
 -- A configuration that a step leaves has no clock reset after now.
 pub steps-old : (P : ℕ) (σ : List Step) {u v : Config} → 0 < length σ → Steps P σ u v → Old u
 steps-old P [] l r = absurd (omega arith)

@@ -34,8 +34,8 @@ tight-total e d = first (decLt (e .up + d .down) (d .up + e .down)) (decLt (d .u
 
 -- ---- the demands from a to b
 module _ (a b : ℕ) where
-  abbrev Found : List Demand → Type 0
-  Found ds = (e : Demand) × Tightest ds a b e
+  abbrev HasTightest : List Demand → Type 0
+  HasTightest ds = (e : Demand) × Tightest ds a b e
 
   abbrev None : List Demand → Type 0
   None ds = (d : Demand) → Link ds a b d → ⊥
@@ -53,7 +53,7 @@ module _ (a b : ℕ) where
 
   -- a link as tight as the first demand, if that is a link, and as the links after it is the tightest
   keep : (e d : Demand) (ds : List Demand) → Link (d ∷ ds) a b e
-      → (Link (d ∷ ds) a b d → AsTight e d) → ((c : Demand) → Link ds a b c → AsTight e c) → Found (d ∷ ds)
+      → (Link (d ∷ ds) a b d → AsTight e d) → ((c : Demand) → Link ds a b c → AsTight e c) → HasTightest (d ∷ ds)
   keep e d ds l f g = (e, record { link = l; least = λ c k. rest c k (link-cases d ds c k) })
     where
       rest : (c : Demand) → Link (d ∷ ds) a b c → (c ≡ d) ⊎ Link ds a b c → AsTight e c
@@ -61,14 +61,14 @@ module _ (a b : ℕ) where
       rest c k (inr m) = g c m
 
   add : (d : Demand) (ds : List Demand) → Dec (Link (d ∷ ds) a b d)
-      → Found ds ⊎ None ds → Found (d ∷ ds) ⊎ None (d ∷ ds)
+      → HasTightest ds ⊎ None ds → HasTightest (d ∷ ds) ⊎ None (d ∷ ds)
   add d ds (no n) (inl f) =
       inl (keep (f .0) d ds (link-more d ds (f .0) (f .1 .link)) (λ l. absurd (n l)) (f .1 .least))
   add d ds (no n) (inr f) = inr (λ e l. ⊎-elim (λ q. n (rw q at l)) (f e) (link-cases d ds e l))
   add d ds (yes l) (inr f) = inl (keep d d ds l (λ k. tight-refl d) (λ c k. absurd (f c k)))
   add d ds (yes l) (inl f) = inl (go (tight-total d (f .0)))
     where
-      go : AsTight d (f .0) ⊎ AsTight (f .0) d → Found (d ∷ ds)
+      go : AsTight d (f .0) ⊎ AsTight (f .0) d → HasTightest (d ∷ ds)
       go (inl h) = keep d d ds l (λ k. tight-refl d) (λ c k. tight-trans d (f .0) c h (f .1 .least c k))
       go (inr h) = keep (f .0) d ds (link-more d ds (f .0) (f .1 .link)) (λ k. h) (f .1 .least)
 
@@ -77,7 +77,7 @@ module _ (a b : ℕ) where
   link-dec d ds (yes p) (no q) = no (λ l. q (l .to))
   link-dec d ds (no p) q = no (λ l. p (l .from))
 
-  look : (ds : List Demand) → Found ds ⊎ None ds
+  look : (ds : List Demand) → HasTightest ds ⊎ None ds
   look [] = inr (λ e l. List·Memᴰ·not-nil (l .among))
   look (d ∷ ds) = add d ds (link-dec d ds (ℕ-discrete (d .from) a) (ℕ-discrete (d .to) b)) (look ds)
 

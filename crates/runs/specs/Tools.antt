@@ -1,53 +1,10 @@
--- Small helpers: a choice by a decision, the largest and the sum of some numbers, what holds of every member of a list.
+-- What holds of every member of a list.
 use mathlib.Core.Path.{_≡_, refl}
 use mathlib.Core.Logic.{_⊎_, inl, inr, ⊎-elim, _↔_}
 use mathlib.Core.List.{List, [], _∷_, _++_, map, List·Memᴰ, List·Memᴰ·head, List·Memᴰ·tail}
 use mathlib.Core.List.{List·Memᴰ·not-nil, List·Memᴰ·cases-cons, List·Memᴰ·append-cases}
 use mathlib.Core.List.{Memᴰ·append-left, Memᴰ·append-right, Memᴰ·map, Memᴰ·of-map}
-use Prim.Native.Nat.{ℕ, zero, suc, _+_, _≤_, _<_, max}
-use native.Mathlib.Omega.{arith}
-use native.Mathlib.Decide.{decLt}
 
--- t where A is decided to hold, else f
-unfoldable pub sel : {A : Type 0} → Dec A → ℕ → ℕ → ℕ
-sel (yes h) t f = t
-sel (no h) t f = f
-
-pub sel-yes : {A : Type 0} (d : Dec A) (t f : ℕ) → A → sel d t f ≡ t
-unfolding sel
-sel-yes (yes h) t f a = refl
-sel-yes (no h) t f a = absurd (h a)
-
-pub sel-no : {A : Type 0} (d : Dec A) (t f : ℕ) → ¬ A → sel d t f ≡ f
-unfolding sel
-sel-no (yes h) t f n = absurd (n h)
-sel-no (no h) t f n = refl
-
--- the largest of g 0 to g (n − 1), and 0 where there is none
-unfoldable pub top : ℕ → (ℕ → ℕ) → ℕ
-top zero g = 0
-top (suc n) g = max (top n g) (g n)
-
-pub top-ge : (n : ℕ) (g : ℕ → ℕ) (i : ℕ) → i < n → g i ≤ top n g
-unfolding top
-top-ge zero g i h = omega arith
-top-ge (suc n) g i h = go (top-ge n g i) (decLt i n)
-  where
-    go : (i < n → g i ≤ top n g) → Dec (i < n) → g i ≤ max (top n g) (g n)
-    go k (yes l) = omega (arith, k l)
-    go k (no l) = let e : i ≡ n = omega arith in rw e (omega arith)
-
--- the sum of f 0 to f (n − 1)
-unfoldable pub sum : (ℕ → ℕ) → ℕ → ℕ
-sum f zero = 0
-sum f (suc n) = sum f n + f n
-
-pub sum-first : (f : ℕ → ℕ) (n : ℕ) → sum f (suc n) ≡ f 0 + sum (λ k. f (suc k)) n
-unfolding sum
-sum-first f zero = omega arith
-sum-first f (suc n) = omega (arith, sum-first f n)
-
--- ---- every member of a list
 abbrev pub Every : {A : Type 0} → (A → Type 0) → List A → Type 0
 Every {A} Q l = (a : A) → List·Memᴰ a l → Q a
 

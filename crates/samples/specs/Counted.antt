@@ -9,12 +9,13 @@ use Rattle.runs.specs.Demand.{plus, minus, guardsDemands, stepsDemands, anyStar
 use Rattle.runs.specs.Tools.{Every, every-nil, every-cons}
 use Rattle.wire.specs.Records.{recordsFrom}
 use Rattle.wire.specs.Reading.{headed, guarded, finished, ended, wholeOf, judgeOf, check, readOf}
-use Rattle.wire.specs.Reading.{zeroed as reset-read}
+use Rattle.wire.specs.Reading.{cleared}
 use Rattle.wire.specs.Listing.{stepsIn, listing, guardsOf, flagged, stepOf}
 use Rattle.format.specs.Fair.{legal-clocks, legal-fair}
 use Rattle.rounds.specs.Answer.{Counts}
 use Rattle.samples.specs.Samples.{Sample, samples}
-use Rattle.samples.specs.Follows.{clocksOf, stepsOf, Accepted}
+use Rattle.asking.specs.Rounds.{clocksOf, cycleOf}
+use Rattle.samples.specs.Follows.{Accepted}
 use Rattle.samples.specs.Checks.{both, all, some, below}
 use Rattle.samples.specs.Lines.{line, atMost, same}
 use Rattle.samples.specs.Walks.{old, may, after, walks, end}
@@ -54,7 +55,7 @@ evidence =
 
 -- a sample is accepted, and its evidence tells its count
 shown : Sample → Evidence → Bool
-shown s e = accepts (s .bytes) && tells (clocksOf (s .bytes)) (stepsOf (s .bytes)) (s .count) e
+shown s e = accepts (s .bytes) && tells (clocksOf (s .bytes)) (cycleOf (s .bytes)) (s .count) e
 
 -- so for each sample of a list
 each : List Sample → List Evidence → Bool
@@ -64,18 +65,18 @@ each (s ∷ ss) (e ∷ es) = shown s e && each ss es
 
 -- ---- what it says
 abbrev Shown : Sample → Type 0
-Shown s = Accepted (s .bytes) × Counts (clocksOf (s .bytes)) (stepsOf (s .bytes)) (s .count)
+Shown s = Accepted (s .bytes) × Counts (clocksOf (s .bytes)) (cycleOf (s .bytes)) (s .count)
 
 shown-is : (s : Sample) (e : Evidence) → shown s e ≡ true → Shown s
 unfolding shown
 shown-is s e h = go (both h)
   where
-    go : (accepts (s .bytes) ≡ true) × (tells (clocksOf (s .bytes)) (stepsOf (s .bytes)) (s .count) e ≡ true) → Shown s
+    go : (accepts (s .bytes) ≡ true) × (tells (clocksOf (s .bytes)) (cycleOf (s .bytes)) (s .count) e ≡ true) → Shown s
     go (a, t) =
         let (accepted, legal) = accepts-legal (s .bytes) a in
         let few : clocksOf (s .bytes) < 7 = omega (arith, legal .clocks-few) in (
           accepted,
-          tells-counts (clocksOf (s .bytes)) (stepsOf (s .bytes)) few (legal-fair _ legal) (legal-clocks _ legal)
+          tells-counts (clocksOf (s .bytes)) (cycleOf (s .bytes)) few (legal-fair _ legal) (legal-clocks _ legal)
               (s .count) e t,
         )
 
@@ -90,12 +91,12 @@ each-is (s ∷ ss) (e ∷ es) h =
 -- The evidence is computed to be right,
 computed : each samples evidence ≡ true
 unfolding each shown samples evidence accepts tells all some below
-    recordsFrom headed guarded reset-read finished ended wholeOf judgeOf check readOf stepsIn listing guardsOf flagged stepOf
+    recordsFrom headed guarded cleared finished ended wholeOf judgeOf check readOf stepsIn listing guardsOf flagged stepOf
     zeroed copies guardsDemands stepsDemands anyStarts startDemands demands
     atMost same old may after walks end alike leads contradicts runs repeats
 computed = refl
 
 -- so all samples are accepted and have their counts.
 pub counted : (s : Sample) → List·Memᴰ s samples
-    → Accepted (s .bytes) × Counts (clocksOf (s .bytes)) (stepsOf (s .bytes)) (s .count)
+    → Accepted (s .bytes) × Counts (clocksOf (s .bytes)) (cycleOf (s .bytes)) (s .count)
 counted = each-is samples evidence computed

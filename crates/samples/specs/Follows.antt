@@ -2,28 +2,21 @@
 use mathlib.Core.Path.{_≡_}
 use mathlib.Core.List.{List, map}
 use Prim.Native.Nat.{ℕ, _+_, _*_}
-use lib.IntN.{ℤ, subℕ}
+use lib.IntN.{ℤ}
 use lib.ListN.{length}
 use Rattle.table.specs.declared.Read.the-variants.{Counted}
 use Rattle.table.specs.Step.{Step}
 use Rattle.wire.specs.Reading.{readOf}
-use Rattle.wire.specs.Listing.{listing, cycle}
 use Rattle.runs.specs.Run.{copies}
-use Rattle.runs.specs.Demand.{anyStarts, demands}
+use Rattle.runs.specs.Demand.{ticksOf, anyStarts, demands}
 use Rattle.runs.specs.declared.Demand.{Demand}
 use Rattle.runs.specs.Loop.{Loop}
 use Rattle.runs.specs.Tools.{Every}
+use Rattle.asking.specs.Rounds.{clocksOf, cycleOf}
 use Rattle.rounds.specs.Answer.{Counts}
 use Rattle.plan.specs.Planned.{Planned}
 use Rattle.plan.specs.Answer.{momentsIn, startsIn}
 use Rattle.samples.specs.Samples.{Plan, planned, looped, Sample}
-
--- the clocks and the steps that bytes write down
-abbrev pub clocksOf : List ℕ → ℕ
-clocksOf bytes = listing bytes .clocks
-
-abbrev pub stepsOf : List ℕ → List Step
-stepsOf bytes = cycle (listing bytes)
 
 -- the bytes are a table
 pub record Accepted (bytes : List ℕ) : Type 0 where
@@ -38,14 +31,10 @@ pub record PlanIs (n : ℕ) (τ : List Step) (k P : ℕ) (moments starts : List 
   pub parts : P ≡ k * length τ + n + 1
   pub planned : Planned P n (copies τ k) anyStarts (momentsIn moments) (startsIn starts)
 
--- the bound of a demand
-abbrev pub boundOf : Demand → ℤ
-boundOf e = subℕ (e .up) (e .down)
-
 -- a loop whose demands have these bounds
 pub record LoopIs (ds : List Demand) (row : List ℕ) (bounds : List ℤ) : Type 0 where
   pub loop : Loop ds row
-  pub bounded : map boundOf (loop .used) ≡ bounds
+  pub bounded : map ticksOf (loop .used) ≡ bounds
 
 -- what is said of "plan for k"
 abbrev pub PlanHolds : ℕ → List Step → Plan → Type 0
@@ -55,5 +44,5 @@ PlanHolds n τ (looped k row bounds) = LoopIs (demands n (copies τ k) anyStarts
 -- all that 01 says of a sample
 pub record Follows (s : Sample) : Type 0 where
   pub accepted : Accepted (s .bytes)
-  pub counted : Counts (clocksOf (s .bytes)) (stepsOf (s .bytes)) (s .count)
-  pub planned : Every (PlanHolds (clocksOf (s .bytes)) (stepsOf (s .bytes))) (s .plans)
+  pub counted : Counts (clocksOf (s .bytes)) (cycleOf (s .bytes)) (s .count)
+  pub planned : Every (PlanHolds (clocksOf (s .bytes)) (cycleOf (s .bytes))) (s .plans)

@@ -13,7 +13,8 @@ use Rattle.runs.specs.declared.Demand.{Demand}
 use Rattle.runs.specs.Loop.{Link, AsTight, Tightest, Along, last, then, Distinct, total, Loop}
 use Rattle.runs.specs.Parts.{gain, loss, parts-negative}
 use Rattle.runs.specs.Cycle.{distinct-nil, distinct-cons}
-use Rattle.samples.specs.Follows.{boundOf, LoopIs}
+use Rattle.runs.specs.Demand.{ticksOf}
+use Rattle.samples.specs.Follows.{LoopIs}
 use Rattle.samples.specs.Checks.{both, either, all, all-every, some, some-member}
 
 -- no moment stands twice
@@ -73,19 +74,19 @@ joins a b e = eqb (e .from) a && eqb (e .to) b
 module _ (P : ℕ) (ds : List Demand) where
   -- the tightest demand from a to b, with bound c
   abbrev pub chosen : ℕ → ℕ → ℤ → Demand → Bool
-  chosen a b c e = joins a b e && (same (boundOf e) c && all (λ d. not (joins a b d) || closer e d) ds)
+  chosen a b c e = joins a b e && (same (ticksOf e) c && all (λ d. not (joins a b d) || closer e d) ds)
 
   chosen-tightest : (a b : ℕ) (c : ℤ) (e : Demand) → List·Memᴰ e ds → chosen a b c e ≡ true
-      → Tightest ds a b e × (boundOf e ≡ c)
+      → Tightest ds a b e × (ticksOf e ≡ c)
   chosen-tightest a b c e m h =
-      let (ends, h1) = both {a = joins a b e} {b = same (boundOf e) c && all (λ d. not (joins a b d) || closer e d) ds} h in
+      let (ends, h1) = both {a = joins a b e} {b = same (ticksOf e) c && all (λ d. not (joins a b d) || closer e d) ds} h in
       let (from, to) = both {a = eqb (e .from) a} {b = eqb (e .to) b} ends in
-      let (bound, tight) = both {a = same (boundOf e) c} {b = all (λ d. not (joins a b d) || closer e d) ds} h1 in (
+      let (bound, tight) = both {a = same (ticksOf e) c} {b = all (λ d. not (joins a b d) || closer e d) ds} h1 in (
         record {
           link = record { among = m; from = eqb-true (e .from) a from; to = eqb-true (e .to) b to };
           least = λ d l. least d l (all-every (λ d. not (joins a b d) || closer e d) ds tight d (l .among));
         },
-        same-is (boundOf e) c bound,
+        same-is (ticksOf e) c bound,
       )
     where
       least : (d : Demand) → Link ds a b d → (not (joins a b d) || closer e d) ≡ true → AsTight e d
@@ -109,12 +110,12 @@ module _ (P : ℕ) (ds : List Demand) where
     record Gains (ms : List ℕ) (cs : List ℤ) (g l : ℕ) : Type 0 where
       used : List Demand
       along : Along (Tightest ds) ms z used
-      bounded : map boundOf used ≡ cs
+      bounded : map ticksOf used ≡ cs
       many : length used ≡ length ms
       more : l + total (loss P) used < g + total (gain P) used
 
     pick : (p : Demand → Bool) (a b : ℕ) (c : ℤ) → some (λ e. chosen a b c e && p e) ds ≡ true
-        → (e : Demand) × Tightest ds a b e × (boundOf e ≡ c) × (p e ≡ true)
+        → (e : Demand) × Tightest ds a b e × (ticksOf e ≡ c) × (p e ≡ true)
     pick p a b c h =
         let (e, m, i) = some-member (λ e. chosen a b c e && p e) ds h in
         let (j, rest) = both {a = chosen a b c e} {b = p e} i in

@@ -14,7 +14,7 @@ use Rattle.runs.specs.Demand.{anyStarts, demands, Allowed, Clocks}
 use Rattle.runs.specs.Allowed.{any-places}
 use Rattle.runs.specs.Satisfies.{Satisfies}
 use Rattle.runs.specs.Rows.{Row, run-satisfies, rowAt, row-is, run-row}
-use Rattle.runs.specs.Tools.{top, top-ge}
+use Rattle.basics.specs.Numbers.{top, top-ge}
 use Rattle.plan.specs.Planned.{Planned}
 use Rattle.samples.specs.Checks.{both, all, all-every, below, below-each}
 use Rattle.samples.specs.Tight.{solves, solves-satisfies, held, held-first, pinned, pinned-last}

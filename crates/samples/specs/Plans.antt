@@ -11,11 +11,13 @@ use Rattle.wire.specs.Records.{recordsFrom}
 use Rattle.wire.specs.Listing.{listing, stepsIn, stepOf, guardsOf, flagged}
 use Rattle.runs.specs.Run.{copies, zeroed}
 use Rattle.runs.specs.Demand.{anyStarts, demands, stepsDemands, guardsDemands, startDemands}
-use Rattle.runs.specs.Tools.{top, Every}
+use Rattle.basics.specs.Numbers.{top}
+use Rattle.runs.specs.Tools.{Every}
 use Rattle.plan.specs.Answer.{momentsIn, startsIn}
 use Rattle.samples.specs.Samples.{Plan, Sample, samples}
 use Rattle.samples.specs.Samples as said
-use Rattle.samples.specs.Follows.{clocksOf, stepsOf, PlanHolds}
+use Rattle.asking.specs.Rounds.{clocksOf, cycleOf}
+use Rattle.samples.specs.Follows.{PlanHolds}
 use Rattle.samples.specs.Checks.{both, all, all-every, some, below}
 use Rattle.samples.specs.Tight.{held}
 use Rattle.samples.specs.PlanTest.{isPlan, plan-sound}
@@ -45,7 +47,7 @@ test-holds n τ (said.looped k row bounds) e = loop-sound (demands n (copies τ 
 
 -- the test of all plans and loops of a sample
 abbrev tested : Sample → Bool
-tested s = all (test (clocksOf (s .bytes)) (stepsOf (s .bytes))) (s .plans)
+tested s = all (test (clocksOf (s .bytes)) (cycleOf (s .bytes))) (s .plans)
 
 -- the whole list passes, by computation
 pass : all tested samples ≡ true
@@ -55,5 +57,5 @@ unfolding samples recordsFrom listing stepsIn stepOf guardsOf flagged copies zer
 pass = refl
 
 -- The plans and loops that 01 gives are plans and loops.
-pub planned : (s : Sample) → List·Memᴰ s samples → Every (PlanHolds (clocksOf (s .bytes)) (stepsOf (s .bytes))) (s .plans)
+pub planned : (s : Sample) → List·Memᴰ s samples → Every (PlanHolds (clocksOf (s .bytes)) (cycleOf (s .bytes))) (s .plans)
 planned s m p i = test-holds _ _ p (all-every _ (s .plans) (all-every tested samples pass s m) p i)

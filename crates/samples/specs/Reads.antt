@@ -11,7 +11,7 @@ use Rattle.table.specs.declared.Read.the-variants.{Counted, Refused}
 use Rattle.wire.specs.Reading.{readOf}
 use Rattle.wire.specs.Listing.{listing}
 use Rattle.format.specs.Encode.{Legal}
-use Rattle.format.specs.Found.{Bytes}
+use Rattle.wire.specs.Records.{Bytes}
 use Rattle.format.specs.Accepted.{accepted-written}
 use Rattle.samples.specs.Checks.{both, all}
 use Rattle.samples.specs.Follows.{Accepted}

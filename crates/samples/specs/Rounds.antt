@@ -15,7 +15,7 @@ use Rattle.runs.specs.ExistsSteps.{Walk, exists-walk}
 use Rattle.runs.specs.Steps.{Config, Old, Steps, stay, steps-same, steps-join, same-refl}
 use Rattle.runs.specs.Tools.{Every, every-nil}
 use Rattle.effects.specs.Begins.{fewer-steps}
-use Rattle.effects.specs.Rounds.{any-exists}
+use Rattle.effects.specs.Starts.{any-exists}
 use Rattle.samples.specs.Checks.{both, three, below, below-each}
 use Rattle.samples.specs.Lines.{Line, line, value, onward, same, same-value, next-value}
 use Rattle.samples.specs.Walks.{Lines, config, old, walks, end, old-is, walks-steps}

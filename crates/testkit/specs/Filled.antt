@@ -4,7 +4,7 @@ use mathlib.Core.List.{List, [], _∷_, _++_}
 use Prim.Native.Nat.{ℕ, _-_, _%_}
 use lib.Dec.{eqb, ltb}
 use lib.ListN.{length, getD}
-use Rattle.zones.specs.Tab.{tab}
+use Rattle.basics.specs.Tab.{tab}
 
 -- Byte k of a pattern over and over; 0 where the pattern is empty.
 unfoldable pub repeatedOf : List ℕ → ℕ → ℕ
@@ -22,7 +22,7 @@ abbrev pub byteAt : ℕ → List ℕ → List ℕ → List ℕ → ℕ → ℕ
 byteAt size head pattern tail k = byteOf head pattern tail k (size - k)
 
 unfoldable pub filledOf : ℕ → List ℕ → List ℕ → List ℕ → List ℕ
-filledOf size head pattern tail = tab size (byteAt size head pattern tail)
+filledOf size head pattern tail = tab (byteAt size head pattern tail) size
 
 -- A step that waits for a clock to read at least 1 and resets it, and such a step for each of six clocks.
 abbrev waiting : ℕ → List ℕ

@@ -8,40 +8,99 @@ ghost use lib.ListN.{length};
 ghost use lib.IntN.{natAbs};
 ghost use Rattle.testkit.specs.Filled.{repeatedOf, byteOf, filledOf, wideSteps};
 
-// 01's samples, as bytes. x is clock 1, and y clock 2.
+// A tape of cases: of each a name, a colon, the length of its table, and the table. First 01's samples; x is clock 1, y clock 2.
 //
-// x at least 3, x is reset.
-pub const S1: [u8; 11] = [1, 1, 2, 1, 3, 3, 0, 3, 1, 4, 5];
+//   S1  x at least 3, x is reset                      S7   x at most 0, x over 0, x is reset
+//   S2  x at least 3, y at most 5, x is reset         S8   x over 0, y under 1, x is reset
+//   S3  S2 with y under 6                             S9   x exactly 2
+//   S4  S2 with y at most 6                           S10  x at most 2, y is reset; then y at least 3, x is reset
+//   S5  x over 0, y at most 0, x is reset             S11  x at least 1, y at most 4,000, x is reset
+//   S6  x under 0
+pub const TABLES: [u8; 403] = *b"\
+    S1:\x0b\x01\x01\x02\x01\x03\x03\x00\x03\x01\x04\x05\
+    S2:\x10\x01\x02\x02\x01\x03\x03\x00\x02\x02\x01\x05\x00\x03\x01\x04\x05\
+    S3:\x10\x01\x02\x02\x01\x03\x03\x00\x02\x02\x00\x06\x00\x03\x01\x04\x05\
+    S4:\x10\x01\x02\x02\x01\x03\x03\x00\x02\x02\x01\x06\x00\x03\x01\x04\x05\
+    S5:\x10\x01\x02\x02\x01\x04\x00\x00\x02\x02\x01\x00\x00\x03\x01\x04\x05\
+    S6:\x09\x01\x01\x02\x01\x00\x00\x00\x04\x05\
+    S7:\x10\x01\x01\x02\x01\x01\x00\x00\x02\x01\x04\x00\x00\x03\x01\x04\x05\
+    S8:\x10\x01\x02\x02\x01\x04\x00\x00\x02\x02\x00\x01\x00\x03\x01\x04\x05\
+    S9:\x09\x01\x01\x02\x01\x02\x02\x00\x04\x05\
+    S10:\x13\x01\x02\x02\x01\x01\x02\x00\x03\x02\x04\x02\x02\x03\x03\x00\x03\x01\x04\x05\
+    S11:\x10\x01\x02\x02\x01\x03\x01\x00\x02\x02\x01\xa0\x0f\x03\x01\x04\x05\
+    a bare step:\x04\x01\x01\x04\x05\
+    no table:\x03\x01\x01\x05\
+    two steps:\x05\x01\x01\x04\x04\x05\
+    two bare steps:\x05\x01\x01\x04\x04\x05\
+    every relation:\x1d\x01\x01\x02\x01\x00\x01\x00\x02\x01\x01\x02\x00\x02\x01\x02\x03\x00\x02\x01\x03\x04\x00\x02\x01\x04\xa0\x0f\x04\x05\
+    three clocks:\x27\x01\x03\x03\x01\x02\x01\x01\x01\x00\x02\x02\x01\x02\x00\x02\x03\x01\x03\x00\x04\x02\x01\x03\x04\x00\x02\x02\x03\x05\x00\x02\x03\x04\x06\x00\x03\x02\x04\x05\
+    a lead of 1022:\x10\x01\x02\x02\x01\x03\x01\x00\x02\x02\x01\xfe\x03\x03\x01\x04\x05";
 
-// x at least 3, y at most 5, x is reset.
-pub const S2: [u8; 16] = [1, 2, 2, 1, 3, 3, 0, 2, 2, 1, 5, 0, 3, 1, 4, 5];
+// Where the name that begins at a place of a tape ends: the next colon, or the end.
+fn colon(tape: &[u8], from: usize) -> usize
+    requires { ⌜ from ≤ length (now tape) ⌝ }
+    ensures { λ r. ⌜ (from ≤ r) × (r ≤ length (now (tape .entry))) ⌝ }
+{
+    let mut i = from;
+    while i < tape.len() {
+        if tape[i] == 58 {
+            return i;
+        }
+        i += 1;
+    }
+    i
+}
 
-// S2 with y under 6.
-pub const S3: [u8; 16] = [1, 2, 2, 1, 3, 3, 0, 2, 2, 0, 6, 0, 3, 1, 4, 5];
+fn number_of(byte: u8) -> usize
+    ensures { λ r. ⌜ r ≡ byte ⌝ }
+{
+    byte as usize
+}
 
-// S2 with y at most 6.
-pub const S4: [u8; 16] = [1, 2, 2, 1, 3, 3, 0, 2, 2, 1, 6, 0, 3, 1, 4, 5];
+// Where the case ends whose name ends at a colon.
+fn end(tape: &[u8], colon: usize) -> usize
+    requires { ⌜ colon ≤ length (now tape) ⌝ }
+    ensures { λ r. ⌜ (colon ≤ r) × (r ≤ length (now (tape .entry))) ⌝ }
+{
+    let left = tape.len() - colon;
+    if left < 2 {
+        return tape.len();
+    }
+    let size = number_of(tape[colon + 1]);
+    if left - 2 < size {
+        return tape.len();
+    }
+    colon + 2 + size
+}
 
-// x over 0, y at most 0, x is reset.
-pub const S5: [u8; 16] = [1, 2, 2, 1, 4, 0, 0, 2, 2, 1, 0, 0, 3, 1, 4, 5];
+// Where a case begins, counted from 1.
+fn place(tape: &[u8], case: usize) -> usize
+    ensures { λ r. ⌜ r ≤ length (now (tape .entry)) ⌝ }
+{
+    let mut at: usize = 0;
+    let mut k: usize = 1;
+    while k < case {
+        at = end(tape, colon(tape, at));
+        k += 1;
+    }
+    at
+}
 
-// x under 0.
-pub const S6: [u8; 9] = [1, 1, 2, 1, 0, 0, 0, 4, 5];
+// The name of a case.
+pub fn name<'a>(tape: &'a [u8], case: usize) -> &'a [u8] {
+    let from = place(tape, case);
+    &tape[from..colon(tape, from)]
+}
 
-// x at most 0, x over 0, x is reset.
-pub const S7: [u8; 16] = [1, 1, 2, 1, 1, 0, 0, 2, 1, 4, 0, 0, 3, 1, 4, 5];
-
-// x over 0, y under 1, x is reset.
-pub const S8: [u8; 16] = [1, 2, 2, 1, 4, 0, 0, 2, 2, 0, 1, 0, 3, 1, 4, 5];
-
-// x exactly 2.
-pub const S9: [u8; 9] = [1, 1, 2, 1, 2, 2, 0, 4, 5];
-
-// x at most 2, y is reset; then y at least 3, x is reset.
-pub const S10: [u8; 19] = [1, 2, 2, 1, 1, 2, 0, 3, 2, 4, 2, 2, 3, 3, 0, 3, 1, 4, 5];
-
-// x at least 1, y at most 4,000, x is reset.
-pub const S11: [u8; 16] = [1, 2, 2, 1, 3, 1, 0, 2, 2, 1, 160, 15, 3, 1, 4, 5];
+// The table of a case.
+pub fn table<'a>(tape: &'a [u8], case: usize) -> &'a [u8] {
+    let from = colon(tape, place(tape, case));
+    let to = end(tape, from);
+    if to - from < 2 {
+        return &tape[to..];
+    }
+    &tape[from + 2..to]
+}
 
 // Byte k of a pattern over and over; 0 where the pattern is empty.
 fn repeated(pattern: &[u8], k: usize) -> u8
@@ -100,23 +159,17 @@ fn magnitude(x: i64) -> u64
     x as u64
 }
 
-// This function and those below print on standard output and give nothing back. No contract can say what is written, as
-// io's says nothing of it: theirs are trivial, and what they print is in the programs' stdout files.
-pub fn word(text: &[u8])
-    ensures { λ r. ⌜ r ≡ tt ⌝ }
-{
+// This function and those below print on standard output and give nothing back, so that they have no contract: what they
+// print is held against the programs' stdout files.
+pub fn word(text: &[u8]) {
     io::write_all(STDOUT_FILENO, text);
 }
 
-pub fn number(x: u64)
-    ensures { λ r. ⌜ r ≡ tt ⌝ }
-{
+pub fn number(x: u64) {
     io::print_decimal(STDOUT_FILENO, x);
 }
 
-pub fn signed(x: i64)
-    ensures { λ r. ⌜ r ≡ tt ⌝ }
-{
+pub fn signed(x: i64) {
     if x < 0 {
         word(b"-");
     }
@@ -124,33 +177,25 @@ pub fn signed(x: i64)
 }
 
 // A word, and a number after it.
-pub fn field(name: &[u8], x: u64)
-    ensures { λ r. ⌜ r ≡ tt ⌝ }
-{
+pub fn field(name: &[u8], x: u64) {
     word(name);
     number(x);
 }
 
 // What a case is called, before its answer.
-pub fn title(name: &[u8])
-    ensures { λ r. ⌜ r ≡ tt ⌝ }
-{
+pub fn title(name: &[u8]) {
     word(name);
     word(b": ");
 }
 
-pub fn refusal(why: Refusal)
-    ensures { λ r. ⌜ r ≡ tt ⌝ }
-{
+pub fn refusal(why: Refusal) {
     let fault = why.fault;
     field(b"refused ", table::number(fault));
     field(b" at ", why.place as u64);
 }
 
 // A row's cells from a place on, four to a line.
-pub fn cells(row: &[i64], from: usize)
-    ensures { λ r. ⌜ r ≡ tt ⌝ }
-{
+pub fn cells(row: &[i64], from: usize) {
     let mut i = from;
     while i < row.len() {
         signed(row[i]);

@@ -1,7 +1,7 @@
 // A small table as a row of numbers. Clocks, steps and guards are counted from 0.
 //   0 clocks, 1 steps, 2 guards, 3 the largest constant; from 4, three to a step: 1 for each clock that it resets;
 //   13 to 15, for each step: the order of its records; from 16, four to a guard: its step, clock, relation and constant;
-//   40 is 1 for a led table.
+//   40 is 1 for a led table; 41 is the seed of the random numbers.
 use crate::cells::add;
 use crate::cells::get;
 use crate::cells::times;
@@ -15,6 +15,8 @@ pub const GUARDS: u64 = 2;
 pub const LARGEST: u64 = 3;
 
 pub const LED: u64 = 40;
+
+pub const SEED: u64 = 41;
 
 pub fn reset_place(step: u64, clock: u64) -> u64 {
     add(4, add(times(3, step), clock))

@@ -15,30 +15,36 @@ mod simulate;
 
 const TABLES: u64 = 3000;
 
-// One table: drawn, written as bytes, and put to the questions.
-fn trial(number: u64, seed: &mut [u64], tally: &mut [u64], grid: &mut [u64]) {
+// One table: drawn, written as bytes, and put to the questions. The next seed.
+fn trial(number: u64, seed: u64, tally: &mut [u64], grid: &mut [u64]) -> u64 {
     let mut t = [0u64; 44];
     let mut bytes = [0u8; 96];
-    generate::make(seed, &mut t);
+    cells::put(&mut t, case::SEED, seed);
+    generate::make(&mut t);
     let length = encode::encode(&t, &mut bytes);
     let fault = compare::table(&t, &bytes, length, tally, grid);
     report::count(tally, report::TABLES);
     report::judged(number, fault, &bytes, length, tally);
+    cells::get(&t, case::SEED)
 }
 
 fn trials(tally: &mut [u64], grid: &mut [u64]) {
-    let mut seed = [1u64; 1];
+    let mut seed = 1;
     let mut number = 0;
     while number < TABLES {
-        trial(number, &mut seed, tally, grid);
+        seed = trial(number, seed, tally, grid);
         number += 1;
     }
 }
 
+fn tallied(grid: &mut [u64]) {
+    let mut tally = [0u64; 32];
+    trials(&mut tally, grid);
+    report::print(&tally);
+}
+
 // The grid has seven places for each of 32768 states.
 fn main() {
-    let mut tally = [0u64; 32];
     let mut grid = [0u64; 229376];
-    trials(&mut tally, &mut grid);
-    report::print(&tally);
+    tallied(&mut grid);
 }

@@ -51,23 +51,6 @@ fn byte(x: u8) {
     number(x as u64);
 }
 
-// In what the answers differ.
-fn fault_name(kind: u64) {
-    match kind {
-        fault::REFUSED => word(b"refused"),
-        fault::COUNT => word(b"the count of rounds"),
-        fault::FOUND_OR_LOOP => word(b"a plan or a loop"),
-        fault::PARTS => word(b"the parts to a tick"),
-        fault::MOMENT => word(b"a moment is not the earliest"),
-        fault::NO_RUN => word(b"the plan is not a run"),
-        fault::START => word(b"a start is not the smallest"),
-        fault::NO_LOOP => word(b"the loop is not one"),
-        fault::ROOM => word(b"a place was not kept"),
-        fault::TWO_WAYS => word(b"the search forward and backward"),
-        _ => word(b"the search on a finer grid"),
-    }
-}
-
 // The first bytes of a room.
 fn first_bytes(bytes: &[u8], length: u64) {
     word(b"; bytes");
@@ -81,7 +64,8 @@ fn first_bytes(bytes: &[u8], length: u64) {
     word(b"\n");
 }
 
-// A table on which the answers differ, unless one was printed already: its number, in what, and its bytes.
+// A table on which the answers differ, unless one was printed already: its number, the number of
+// the fault, and its bytes.
 fn difference(earlier: u64, table: u64, fault: u64, bytes: &[u8], length: u64) {
     if earlier > 0 {
         return;
@@ -90,8 +74,8 @@ fn difference(earlier: u64, table: u64, fault: u64, bytes: &[u8], length: u64) {
     number(table);
     word(b" differs for ");
     number(fault / 16);
-    word(b" rounds: ");
-    fault_name(fault % 16);
+    word(b" rounds: fault ");
+    number(fault % 16);
     first_bytes(bytes, length);
 }
 

@@ -2,16 +2,16 @@
 use mathlib.Core.Path.{_≡_, refl, sym, ap, _∙_}
 use mathlib.Core.Bool.{Bool, true, false, _||_}
 use mathlib.Core.List.{List, [], _∷_, _++_, append-assoc, append-nil}
-use Prim.Native.Nat.{ℕ, suc, _+_, _-_, _≤_, _<_, min}
+use Prim.Native.Nat.{ℕ, _+_, _≤_, _<_, min}
 use native.Mathlib.Omega.{arith}
 use native.Mathlib.Numerals.{add-one}
 use borrow.Author.Tests.{lt-ltb, le-ltb, lt-leb}
-use lib.ListN.{length, getD, set, take, drop, length-set, length-append}
-use lib.Seq.{slice, slice-cons, slice-empty, take-suc, length-take-le, take-suc-set, drop-append-le}
-use Rattle.table.specs.Step.{stepAt, FairGuard, Good}
+use lib.ListN.{length, getD, set, take, length-set, length-append}
+use lib.Seq.{slice, slice-cons, slice-empty, take-suc, length-take-le, take-suc-set, drop-append-le, getD-set-other}
+use Rattle.table.specs.Step.{Good}
+use Rattle.table.specs.Steps.{guard-fair}
 use Rattle.table.specs.declared.Guard.{Guard}
 use Rattle.table.specs.declared.Table.{Table}
-use Rattle.constraints.specs.Rounds.{guard-fair}
 use Rattle.trim.specs.declared.Kept.{Kept}
 use Rattle.trim.specs.Trimmed.{keyOn, least, wanted, narrow, kept, trimmed}
 use Rattle.trim.specs.Sides.{Side, none}
@@ -25,11 +25,12 @@ pub record Part (t : Table) (s from to : ℕ) : Type 0 where
   pub order : from ≤ to
   pub last : to ≤ getD (t .ends) (s + 1) 0
 
--- k with some guards more
+-- k with some guards more, and the places after them as they were
 pub record Grown (k : Kept) (new : List Guard) (r : Kept) : Type 0 where
   pub room : length (r .guards) ≡ 64
   pub list : take (r .size) (r .guards) ≡ take (k .size) (k .guards) ++ new
   pub size : r .size ≡ k .size + length new
+  pub rest : (i : ℕ) (d : Guard) → r .size ≤ i → getD (r .guards) i d ≡ getD (k .guards) i d
 
 pub part-room : (t : Table) (s from to : ℕ) → Part t s from to → to ≤ length (t .guards)
 part-room t s from to p = omega (arith, p .last, p .good .room (s + 1) (omega (arith, p .step)), p .good .guards-size)
@@ -110,13 +111,14 @@ module _ (k : Kept) (room : length (k .guards) ≡ 64) (up low : Bool) (g : Guar
           room = length-set (k .guards) (k .size) (narrow up low g) ∙ room;
           list = rw (add-one (k .size)) (take-suc-set (k .guards) (k .size) (narrow up low g) (omega arith));
           size = omega arith;
+          rest = λ i d h. getD-set-other (k .guards) (k .size) i (narrow up low g) d (omega arith);
         },
         omega arith,
       )
 
   pub grown-none : (up || low) ≡ false → Grown k (kept up low g) k × (k .size ≤ k .size + 1)
   unfolding kept
-  grown-none b = rw b (record { room = room; list = sym (append-nil _); size = omega arith }, omega arith)
+  grown-none b = rw b (record { room = room; list = sym (append-nil _); size = omega arith; rest = λ i d h. refl }, omega arith)
 
 -- ---- the guards of a step, from place f up to `end`
 -- At place i: the guards kept so far, and those of the rest, are the guards before the step and the trimmed ones.
@@ -129,6 +131,7 @@ pub record Going (f end : ℕ) (gs : List Guard) (k out : Kept) (i : ℕ) : Type
   pub list :
       take (out .size) (out .guards) ++ trimmed (slice f i gs) (slice i end gs)
       ≡ take (k .size) (k .guards) ++ trimmed [] (slice f end gs)
+  pub rest : (j : ℕ) (d : Guard) → out .size ≤ j → getD (out .guards) j d ≡ getD (k .guards) j d
 
 module _ (f end : ℕ) (gs : List Guard) (k : Kept) where
   pub going-first : f ≤ end → end ≤ 64 → length (k .guards) ≡ 64 → Going f end gs k k f
@@ -140,6 +143,7 @@ module _ (f end : ℕ) (gs : List Guard) (k : Kept) where
         size = omega arith;
         room = r;
         list = rw (slice-empty f gs);
+        rest = λ j d h. refl;
       }
 
   pub going-next : (out r : Kept) (i : ℕ) (d : Guard) (up low : Bool) → Going f end gs k out i → i < end → end ≤ length gs
@@ -155,6 +159,7 @@ module _ (f end : ℕ) (gs : List Guard) (k : Kept) where
         size = omega (arith, w .size);
         room = n .room;
         list = list;
+        rest = λ j d h. n .rest j d h ∙ w .rest j d (omega (arith, n .size));
       }
     where
       new : List Guard
@@ -174,7 +179,7 @@ module _ (f end : ℕ) (gs : List Guard) (k : Kept) where
 
   pub going-last : (out : Kept) (i : ℕ) → Going f end gs k out i → end ≤ i → k .size ≤ f → length (k .guards) ≡ 64
       → Grown k (trimmed [] (slice f end gs)) out × (out .size ≤ end)
-  going-last out i w h l r = (record { room = w .room; list = list; size = size }, omega (arith, w .size, w .to))
+  going-last out i w h l r = (record { room = w .room; list = list; size = size; rest = w .rest }, omega (arith, w .size, w .to))
     where
       end-is : i ≡ end
       end-is = omega (arith, w .to)

@@ -7,3 +7,4 @@ pub mod Rounds
 pub mod Runs
 pub mod Grows
 pub mod Trims
+pub mod OneTrim

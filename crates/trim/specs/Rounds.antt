@@ -1,8 +1,7 @@
 -- Trimmed steps have the same runs, and a loop of their demands is a loop of all demands.
 use mathlib.Core.Path.{_≡_, refl, ap, sym, _∙_, subst}
-use mathlib.Core.Logic.{_↔_, inl, inr, ⊎-elim}
-use mathlib.Core.Bool.{Bool, false}
-use mathlib.Core.List.{List, [], _∷_, _++_, map, List·Memᴰ, List·Memᴰ·head, List·Memᴰ·tail, Memᴰ·of-map}
+use mathlib.Core.Bool.{false}
+use mathlib.Core.List.{List, [], _∷_, _++_, List·Memᴰ, Memᴰ·of-map}
 use Prim.Native.Nat.{ℕ, zero, suc, _+_, _<_, _≤_}
 use native.Mathlib.Omega.{arith}
 use lib.ListN.{length}
@@ -11,12 +10,10 @@ use Rattle.table.specs.declared.Guard.{Guard}
 use Rattle.runs.specs.declared.Demand.{Demand}
 use Rattle.runs.specs.Run.{copies, zeroed}
 use Rattle.runs.specs.Demand.{plus, stepsDemands, startDemands, Starts, demands, Clocks}
-use Rattle.runs.specs.DemandOrder.{demands-is, stepsDemands-nil, stepsDemands-cons}
-use Rattle.runs.specs.Loop.{AsTight}
 use Rattle.runs.specs.Steps.{fairs-head, fairs-tail}
 use Rattle.runs.specs.Tighten.{tight-refl}
-use Rattle.trim.specs.Trimmed.{trimmed, trimStep, trimSteps}
-use Rattle.trim.specs.Covers.{Stronger, Covers, covers-append}
+use Rattle.trim.specs.Trimmed.{trimStep, trimSteps}
+use Rattle.trim.specs.Covers.{Covers, covers-append}
 use Rattle.trim.specs.Guards.{From, trimmed-from, covers-guards}
 
 -- demands stand for themselves
@@ -26,10 +23,6 @@ covers-same ds =
       among = λ e m. m;
       covered = λ d m. (d, m, record { from = refl; to = refl; tight = tight-refl d });
     }
-
-trim-zeroed : (s : Step) (i : ℕ) (z : ℕ → ℕ) (j : ℕ) → zeroed (trimStep s) i z j ≡ zeroed s i z j
-unfolding trimStep zeroed
-trim-zeroed s i z j = refl
 
 covers-steps : (σ : List Step) → Fairs σ → (i : ℕ) (z : ℕ → ℕ) → Covers (stepsDemands (trimSteps σ) i z) (stepsDemands σ i z)
 unfolding stepsDemands trimStep zeroed

@@ -1,8 +1,7 @@
 -- Steps and trimmed steps have the same runs.
-use mathlib.Core.Path.{subst}
 use mathlib.Core.Logic.{_↔_}
 use mathlib.Core.List.{List}
-use Prim.Native.Nat.{ℕ, suc, _<_, _≤_}
+use Prim.Native.Nat.{ℕ, suc, _<_}
 use native.Mathlib.Omega.{arith}
 use lib.ListN.{length}
 use Rattle.table.specs.Step.{Step, Fairs}
@@ -10,7 +9,7 @@ use Rattle.runs.specs.Run.{Run}
 use Rattle.runs.specs.Demand.{Starts, Allowed, demands, Clocks, Places}
 use Rattle.runs.specs.Rows.{Row, rowAt, row-is, run-satisfies}
 use Rattle.runs.specs.Satisfies.{Satisfies}
-use Rattle.runs.specs.Tools.{top, top-ge}
+use Rattle.basics.specs.Numbers.{top, top-ge}
 use Rattle.trim.specs.Trimmed.{trimSteps}
 use Rattle.trim.specs.Covers.{covers-satisfies}
 use Rattle.trim.specs.Rounds.{covers-demands, length-trim, clocks-trim}

@@ -2,7 +2,7 @@
 -- from below. A guard "exactly" that is only one of the two becomes "at most" or "at least".
 use mathlib.Core.Bool.{Bool, true, false, cond, _&&_, _||_}
 use mathlib.Core.List.{List, [], _∷_, _++_, map}
-use Prim.Native.Nat.{ℕ, _≤_, min}
+use Prim.Native.Nat.{ℕ, min}
 use lib.Dec.{leb, ltb, eqb}
 use Rattle.table.specs.Step.{Step}
 use Rattle.table.specs.declared.Guard.{Guard}

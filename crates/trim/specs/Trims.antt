@@ -1,13 +1,12 @@
 -- A table with its steps trimmed.
 use mathlib.Core.Path.{_≡_, refl, sym, ap, _∙_, subst}
-use mathlib.Core.Logic.{_≢_}
-use mathlib.Core.List.{List, [], _∷_, _++_}
+use mathlib.Core.List.{List, []}
 use Prim.Native.Nat.{ℕ, zero, suc, _+_, _*_, _≤_, _<_}
 use native.Mathlib.Omega.{arith}
 use native.Mathlib.Decide.{decLt}
-use lib.ListN.{length, getD, set, replicate, take, drop, length-set}
+use lib.ListN.{length, getD, set, replicate, take, drop, length-set, getD-replicate}
 use lib.Seq.{slice, length-take-le, take-take, take-append-le, drop-at, getD-set-same, getD-set-other}
-use Rattle.table.specs.Step.{Step, stepAt, stepsFrom, stepsOf, Fairs, Good}
+use Rattle.table.specs.Step.{stepAt, stepsFrom, stepsOf, Fairs, Good}
 use Rattle.table.specs.declared.Guard.{Guard}
 use Rattle.table.specs.declared.Table.{Table}
 use Rattle.trim.specs.declared.Kept.{Kept}
@@ -15,12 +14,17 @@ use Rattle.trim.specs.Trimmed.{trimmed, trimStep, trimSteps}
 use Rattle.trim.specs.Rounds.{fairs-trim}
 use Rattle.trim.specs.Grows.{Grown}
 
--- r is t with its steps trimmed.
+-- r is t with its steps trimmed: the guards that are kept stand first, from place 0 on, and the places after them are as
+-- they were; ends after the last step are 0.
 pub record Trims (t r : Table) : Type 0 where
   pub good : Good r
   pub clocks : r .clocks ≡ t .clocks
   pub size : r .steps ≡ t .steps
   pub steps : stepsOf r ≡ trimSteps (stepsOf t)
+  pub first : getD (r .ends) 0 0 ≡ 0
+  pub after : (i : ℕ) → t .steps < i → i < 18 → getD (r .ends) i 0 ≡ 0
+  pub rest : (i : ℕ) (d : Guard) → getD (r .ends) (t .steps) 0 ≤ i → getD (r .guards) i d ≡ getD (t .guards) i d
+  pub resets : r .resets ≡ t .resets
 
 -- ---- the steps so far
 -- Step i has its trimmed guards from place `ends i` of k up to place `ends (i + 1)`.
@@ -37,6 +41,9 @@ pub record Done (t : Table) (ends : List ℕ) (k : Kept) (s : ℕ) : Type 0 wher
   pub now : getD ends s 0 ≡ k .size
   pub under : k .size ≤ getD (t .ends) s 0
   pub placed : (i : ℕ) → i < s → Placed t ends k i
+  pub first : getD ends 0 0 ≡ 0
+  pub after : (i : ℕ) → s < i → i < 18 → getD ends i 0 ≡ 0
+  pub rest : (i : ℕ) (d : Guard) → k .size ≤ i → getD (k .guards) i d ≡ getD (t .guards) i d
 
 pub done-first : (t : Table) → Good t → (ends : List ℕ) (k : Kept) → k ≡ record { guards = t .guards; size = 0 }
     → ends ≡ replicate 18 0 → Done t ends k 0
@@ -49,6 +56,9 @@ done-first t good ends k e f =
       now = refl;
       under = omega arith;
       placed = λ i l. absurd (omega arith);
+      first = refl;
+      after = λ i l b. getD-replicate 18 i 0 0 b;
+      rest = λ i d l. refl;
     })
 
 -- what is kept is not touched by what comes after it
@@ -119,6 +129,9 @@ module _ (t : Table) (good : Good t) (ends : List ℕ) (k : Kept) (s : ℕ) (d :
         now = here;
         under = h;
         placed = placed-all;
+        first = old 0 (omega arith) ∙ d .first;
+        after = λ i m b. getD-set-other ends (s + 1) i (r .size) 0 (omega arith) ∙ d .after i (omega arith) b;
+        rest = λ i e m. g .rest i e m ∙ d .rest i e (omega (arith, g .size));
       }
 
 -- ---- all steps
@@ -171,6 +184,10 @@ module _ (t : Table) (good : Good t) (ends : List ℕ) (k : Kept) (d : Done t en
         clocks = refl;
         size = refl;
         steps = steps;
+        first = d .first;
+        after = d .after;
+        rest = λ i e m. d .rest i e (omega (arith, d .now));
+        resets = refl;
       }
 
 pub done-last : (t : Table) → Good t → (ends : List ℕ) (k : Kept) (s : ℕ) → Done t ends k s → t .steps ≤ s

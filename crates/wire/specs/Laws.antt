@@ -3,6 +3,7 @@ use mathlib.Core.Path.{_≡_, refl, sym, ap, _∙_}
 use mathlib.Core.List.{List, _∷_}
 use Prim.Native.Nat.{ℕ, _+_, _≤_, _<_}
 use lib.ListN.{length, getD, drop}
+use lib.Seq.{getD-take, getD-drop}
 use native.Mathlib.Omega.{arith}
 use native.Mathlib.Decide.{decLe}
 use borrow.Author.Tests.{le-leb, lt-leb}
@@ -14,9 +15,14 @@ use Rattle.wire.specs.declared.Tally.{Tally}
 use Rattle.wire.specs.declared.Verdict.{Verdict}
 use Rattle.wire.specs.declared.Verdict.the-variants.{Refused, Next, Last}
 use Rattle.wire.specs.Records.{Record, bodySize, recordAt, recordsAt, records-none, records-next}
-use Rattle.table.specs.declared.Table.{Table}
-use Rattle.wire.specs.Fill.{empty, put, filled, tableOf}
-use Rattle.wire.specs.Reading.{judgeOf, tail, check, start, readOf}
+use Rattle.wire.specs.Reading.{byte, judgeOf, tail, check, start, readOf}
+
+-- byte i of a record's body, by its place in the table
+pub byte-is : (bytes : List ℕ) (at k i : ℕ) → i < bodySize k → (n : ℕ) → n ≡ at + 1 + i
+    → getD bytes n 0 ≡ byte (recordAt at k (drop (at + 1) bytes)) i
+byte-is bytes at k i h n e =
+    ap (λ m. getD bytes m 0) e
+    ∙ sym (getD-take (bodySize k) (drop (at + 1) bytes) i 0 h ∙ getD-drop (at + 1) bytes i 0)
 
 -- what a verdict makes of the records after it
 abbrev pub onward : ℕ → Tally → List Record → Verdict → Read
@@ -69,20 +75,6 @@ go-on bytes t at kind size v h judged k s due =
     (λ i. onward (length bytes) t (recordsAt bytes (at + 1 + (s ∙ ap bodySize k) i)) (judged i))
     ∙ sym (check-on bytes t at (length bytes) h) ∙ due
 
--- a table by value, one record further
-pub filled-on : (bytes : List ℕ) (t u : Table) (at kind size : ℕ) → at < length bytes → kind ≡ getD bytes at 0 → size ≡ bodySize kind
-    → u ≡ put (recordAt at kind (drop (at + 1) bytes)) t
-    → filled u (recordsAt bytes (at + 1 + size)) ≡ filled t (recordsAt bytes at)
-unfolding filled
-filled-on bytes t u at kind size h k s p =
-    (λ i. filled (p i) (recordsAt bytes (at + 1 + s i)))
-    ∙ (λ i. filled (put (recordAt at (k i) (drop (at + 1) bytes)) t) (recordsAt bytes (at + 1 + bodySize (k i))))
-    ∙ ap (filled t) (sym (records-next bytes at h))
-
-pub filled-out : (bytes : List ℕ) (t : Table) (at : ℕ) → length bytes ≤ at → filled t (recordsAt bytes at) ≡ t
-unfolding filled
-filled-out bytes t at h = ap (filled t) (records-none bytes at h)
-
 -- what is accepted is short
 pub counted-short : (bytes : List ℕ) (n l g : ℕ) → readOf bytes ≡ read.Counted n l g → length bytes ≤ 4096
 counted-short bytes n l g e = go (decLe (length bytes) 4096)
@@ -93,12 +85,3 @@ counted-short bytes n l g e = go (decLe (length bytes) 4096)
       where
         clash : readOf bytes ≡ read.Refused (record { fault = fault.Length; place = 4096 }) → ⊥
         clash r = let z : _≡_ {A = ℕ} 0 1 = cc in omega arith
-
--- the table by value of accepted and of refused bytes
-pub table-counted : (bytes : List ℕ) (n l g : ℕ) → readOf bytes ≡ read.Counted n l g → tableOf bytes ≡ filled empty (recordsAt bytes 0)
-unfolding tableOf
-table-counted bytes n l g e = rw (tableOf, e)
-
-pub table-refused : (bytes : List ℕ) (f : Refusal) → readOf bytes ≡ read.Refused f → tableOf bytes ≡ empty
-unfolding tableOf
-table-refused bytes f e = rw (tableOf, e)

@@ -1,5 +1,5 @@
 pub mod Records
 pub mod Reading
 pub mod Listing
-pub mod Fill
 pub mod Laws
+pub mod Tests

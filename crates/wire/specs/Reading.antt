@@ -43,8 +43,8 @@ guarded t place clock relation constant =
     (Next (record { clocks = t .clocks; steps = t .steps; guards = t .guards + 1; pending = true })))))
 
 -- a reset of a clock
-unfoldable pub zeroed : Tally → ℕ → ℕ → Verdict
-zeroed t place clock =
+unfoldable pub cleared : Tally → ℕ → ℕ → Verdict
+cleared t place clock =
     need (within 1 clock (t .clocks)) fault.Timer place
     (Next (record { clocks = t .clocks; steps = t .steps; guards = t .guards; pending = true }))
 
@@ -71,7 +71,7 @@ unfoldable pub wholeOf : Tally → Record → Verdict
 wholeOf t r =
     cond (eqb (r .kind) 1) (headed (r .place) (byte r 0))
     (cond (eqb (r .kind) 2) (guarded t (r .place) (byte r 0) (byte r 1) (constantOf r))
-    (cond (eqb (r .kind) 3) (zeroed t (r .place) (byte r 0))
+    (cond (eqb (r .kind) 3) (cleared t (r .place) (byte r 0))
     (cond (eqb (r .kind) 4) (finished t (r .place))
     (ended t (r .place)))))
 

@@ -9,6 +9,10 @@ use lib.Dec.{eqb}
 use lib.ListN.{length, getD, take, drop, drop-of-length-le}
 use lib.Seq.{drop-cons, drop-drop}
 
+-- every number is a byte
+abbrev pub Bytes : List ℕ → Type 0
+Bytes bytes = (i : ℕ) → getD bytes i 0 < 256
+
 -- A record as it stands: the place of its kind byte, the kind, and its body, cut short where the bytes run out.
 pub record Record : Type 0 where
   pub place : ℕ

@@ -7,13 +7,13 @@ use native.Mathlib.Omega.{arith}
 use native.Mathlib.Decide.{ℕ-discrete}
 use lib.ListN.{length, getD, set, length-set, replicate, length-replicate, getD-replicate}
 use lib.Seq.{getD-set-same, getD-set-other}
-use Rattle.zones.specs.Choice.{choose, choose-yes, choose-no, choose-cases, both, min-cases, not-below-zero}
+use Rattle.basics.specs.Choice.{choose, choose-yes, choose-no, choose-cases, both, min-cases, not-below-zero}
 use Rattle.zones.specs.Bound.{_⊑_, Sat, ⊑-refl, ⊑-trans}
 use Rattle.zones.specs.Values.{sat-mono, sat-self}
 use Rattle.zones.specs.Matrix.{Solves, Flat}
 use Rattle.zones.specs.Codes.{BIAS, NONE, ZERO, bound, bound-none, bound-some, bound-mono, zero-bound}
 use Rattle.zones.specs.Codes.{Coded, coded-top, coded-wider}
-use Rattle.zones.specs.Tab.{tab, length-tab, getD-tab, is-tab}
+use Rattle.basics.specs.Tab.{tab, length-tab, getD-tab, is-tab}
 use Rattle.zones.specs.Cells.{cell, matrix, Ranged, blankOf, unboundedOf, tightenOf}
 
 -- A cell of a matrix in range is a code in range.
@@ -64,7 +64,7 @@ diagonal-all l d = is-tab 441 blankOf l (d .full) at
 
 cell-unbounded : (a b : ℕ) → a < 21 → b < 21 → cell unboundedOf a b ≡ choose (ℕ-discrete a b) ZERO NONE
 unfolding unboundedOf
-cell-unbounded a b ha hb = getD-tab 441 blankOf (a * 21 + b) (omega arith) ∙ go (ℕ-discrete a b)
+cell-unbounded a b ha hb = getD-tab blankOf 441 (a * 21 + b) (omega arith) ∙ go (ℕ-discrete a b)
   where
     go : (d : Dec (a ≡ b)) → choose (ℕ-discrete ((a * 21 + b) % 22) 0) ZERO NONE ≡ choose d ZERO NONE
     go (yes e) = unfold choose in choose-yes (ℕ-discrete ((a * 21 + b) % 22) 0) ZERO NONE (omega arith)
@@ -73,11 +73,11 @@ cell-unbounded a b ha hb = getD-tab 441 blankOf (a * 21 + b) (omega arith) ∙ g
 -- It is in every range,
 pub unbounded-ranged : (D : ℕ) → Ranged D unboundedOf
 unfolding unboundedOf
-unbounded-ranged D = record { full = length-tab 441 blankOf; coded = coded }
+unbounded-ranged D = record { full = length-tab blankOf 441; coded = coded }
   where
-    coded : (k : ℕ) → k < 441 → Coded D (getD (tab 441 blankOf) k 0)
+    coded : (k : ℕ) → k < 441 → Coded D (getD (tab blankOf 441) k 0)
     coded k h =
-        rw (getD-tab 441 blankOf k h)
+        rw (getD-tab blankOf 441 k h)
         (choose-cases (Coded D) (ℕ-discrete (k % 22) 0) ZERO NONE
         (λ e n. record { low = omega arith; high = omega arith }) (λ e n. absurd (n refl)))
 

@@ -5,10 +5,10 @@ use mathlib.Core.List.{List}
 use Prim.Native.Nat.{ℕ, zero, suc, _+_, _*_, _/_, _%_, _<_, min}
 use native.Mathlib.Decide.{decLe, ℕ-discrete}
 use lib.ListN.{length, getD, set}
-use Rattle.zones.specs.Choice.{choose}
+use Rattle.basics.specs.Choice.{choose}
 use Rattle.zones.specs.Matrix.{Matrix}
 use Rattle.zones.specs.Codes.{NONE, ZERO, bound, sumOf, Coded}
-use Rattle.zones.specs.Tab.{tab}
+use Rattle.basics.specs.Tab.{tab}
 
 -- The code from vertex a to vertex b.
 abbrev pub cell : List ℕ → ℕ → ℕ → ℕ
@@ -29,7 +29,7 @@ blankOf k = choose (ℕ-discrete (k % 22) 0) ZERO NONE
 
 -- No bounds.
 unfoldable pub unboundedOf : List ℕ
-unboundedOf = tab 441 blankOf
+unboundedOf = tab blankOf 441
 
 -- The bound from a to b tightened by the code e.
 unfoldable pub tightenOf : ℕ → ℕ → ℕ → List ℕ → List ℕ
@@ -41,7 +41,7 @@ viaOf p l k = min (getD l k 0) (sumOf (getD l (k / 21 * 21 + p) 0) (getD l (p * 
 
 -- One pivot.
 unfoldable pub pivotOf : ℕ → List ℕ → List ℕ
-pivotOf p l = tab 441 (viaOf p l)
+pivotOf p l = tab (viaOf p l) 441
 
 -- How closing ended: true and the cells after every pivot, or false and the cells at the first negative diagonal.
 pub data Closing : Type 0 where

@@ -2,12 +2,11 @@
 use mathlib.Core.Logic.{_⊎_, inl, inr, ⊎-elim}
 use Prim.Native.Nat.{ℕ, zero, suc, _≤_, _<_}
 use native.Mathlib.Omega.{arith}
-use Rattle.zones.specs.Choice.{not-below-zero}
+use Rattle.basics.specs.Choice.{not-below-zero}
 use Rattle.zones.specs.Bound.{_⊑_, weak-zero, dec⊑, ⊑-trans}
 use Rattle.zones.specs.Matrix.{Matrix, Solves, Solution, OthersSettled, Closed, Flat, pivot, pivot-is}
 use Rattle.zones.specs.Matrix.{Pivots, start, next, pivots-low, pivots-keep, pivots-back, pivots-fail}
 use Rattle.zones.specs.Floyd.{pivots-closed}
-use Rattle.zones.specs.Extend.{solve}
 
 -- C is a closure of M: closed, no looser, and with the same solutions.
 pub record Closure (N : ℕ) (M C : Matrix) : Type 0 where
@@ -19,11 +18,6 @@ pub record Closure (N : ℕ) (M C : Matrix) : Type 0 where
 -- A closure of a flat matrix is flat.
 pub closure-flat : {N : ℕ} {M C : Matrix} → Closure N M C → Flat N M → Flat N C
 closure-flat c f a h = ⊑-trans (c .low a a h h) (f a h)
-
--- A matrix with a closure has a solution.
-pub closure-solution : {N : ℕ} {M C : Matrix} → Closure N M C → Solution N M
-closure-solution {N} {C = C} c =
-    let (P, l, (x, s)) = solve N C (c .closed) in (P, l, (x, c .back P x l s))
 
 -- Pivots in turn make a closure where the other vertices are settled.
 pub pivots-closure : {N from k : ℕ} {M C : Matrix} → Pivots N from M k C → OthersSettled N from k M → Closure N M C
@@ -51,7 +45,3 @@ pivoting N M (suc k) h = ⊎-elim (λ (L, r). go L r (dec⊑ weak-zero (L k k)))
 -- A matrix has a closure, or no solution.
 pub closing : (N : ℕ) (M : Matrix) → ((C : Matrix) × Closure N M C) ⊎ (¬ Solution N M)
 closing N M = ⊎-elim (λ r. inl (r .0, pivots-closure (r .1) (no-others N M))) inr (pivoting N M N (omega arith))
-
--- So it is decided whether a matrix has a solution.
-pub solvable : (N : ℕ) (M : Matrix) → Dec (Solution N M)
-solvable N M = ⊎-elim (λ r. yes (closure-solution (r .1))) no (closing N M)

@@ -4,7 +4,7 @@ use mathlib.Core.Logic.{_≢_}
 use Prim.Native.Nat.{ℕ, _+_, _*_, _-_, _%_, _^_, _≤_, _<_, max}
 use native.Mathlib.Omega.{arith}
 use native.Mathlib.Decide.{ℕ-discrete}
-use Rattle.zones.specs.Choice.{choose, choose-yes, choose-no, choose-cases}
+use Rattle.basics.specs.Choice.{choose, choose-yes, choose-no, choose-cases}
 use Rattle.zones.specs.Bound.{Bound, none, some, half, sum, _⊑_, _⊕_, weak-zero}
 use Rattle.zones.specs.Weight.{Within}
 

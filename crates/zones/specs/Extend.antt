@@ -5,7 +5,8 @@ use Prim.Native.Nat.{ℕ, zero, suc, _+_, _*_, _-_, _≤_, _<_, max}
 use native.Mathlib.Omega.{arith}
 use native.Mathlib.Decide.{decLt, ℕ-discrete}
 use native.Mathlib.Nat.{mul-pos}
-use Rattle.zones.specs.Choice.{choose, choose-yes, choose-no, choose-cases, either, not-below-zero, top, top-ge}
+use Rattle.basics.specs.Choice.{choose, choose-yes, choose-no, choose-cases, either, not-below-zero}
+use Rattle.basics.specs.Numbers.{top, top-ge}
 use Rattle.zones.specs.Bound.{Bound, none, some, half, strict, sum, half-sum, strict-sum, _⊕_, Sat}
 use Rattle.zones.specs.Values.{sat-mono, sat-self, sat-scale}
 use Rattle.zones.specs.Matrix.{Matrix, Solves, Solution, Closed}

@@ -5,7 +5,7 @@ use mathlib.Core.Logic.{_⊎_, inl, inr, ⊎-elim}
 use Prim.Native.Nat.{ℕ, _≤_, _<_}
 use native.Mathlib.Omega.{arith}
 use native.Mathlib.Decide.{decLt}
-use Rattle.zones.specs.Choice.{not-below-zero}
+use Rattle.basics.specs.Choice.{not-below-zero}
 use Rattle.zones.specs.Bound.{_⊑_, _⊕_, weak-zero, ⊑-refl, ⊑-trans, ⊕-mono, ⊕-assoc, ⊕-comm, ⊕-left, ⊕-right}
 use Rattle.zones.specs.Matrix.{Matrix, Settled, OthersSettled, Closed, settled-closed, Pivot, Pivots, start, next}
 

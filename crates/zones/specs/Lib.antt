@@ -1,4 +1,3 @@
-pub mod Choice
 pub mod Bound
 pub mod Values
 pub mod Matrix
@@ -10,8 +9,5 @@ pub mod Tight
 pub mod Weight
 pub mod Linear
 pub mod Codes
-pub mod Tab
 pub mod Cells
-pub mod Rows
 pub mod Building
-pub mod Closing

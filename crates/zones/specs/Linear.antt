@@ -6,7 +6,7 @@ use Prim.Native.Nat.{ℕ, zero, suc, _+_, _*_, _≤_, _<_}
 use native.Mathlib.Omega.{arith}
 use native.Mathlib.Nat.{mul-le-mul-right}
 use native.Mathlib.Decide.{decLt, ℕ-discrete}
-use Rattle.zones.specs.Choice.{choose, choose-yes, choose-no, choose-cases, not-below-zero}
+use Rattle.basics.specs.Choice.{choose, choose-yes, choose-no, choose-cases, not-below-zero}
 use Rattle.zones.specs.Bound.{_⊑_, _⊕_, weak-zero, dec⊑, ⊑-refl, ⊑-trans, ⊕-mono, ⊕-assoc, ⊕-comm, ⊕-left}
 use Rattle.zones.specs.Matrix.{Matrix, Settled, Pivot, Pivots, start, next}
 use Rattle.zones.specs.Floyd.{pivots-settle}

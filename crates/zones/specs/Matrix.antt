@@ -63,9 +63,6 @@ pivot-is N p M = record {
 
 -- ---- Settled and closed
 
-pub closed-settled : {N : ℕ} {M : Matrix} → Closed N M → (c : ℕ) → c < N → Settled N M c
-closed-settled d c hc = record { tri = λ a b ha hb. d .tri a b c ha hb hc; diag = d .diag c hc }
-
 pub settled-closed : {N : ℕ} {M : Matrix} → ((c : ℕ) → c < N → Settled N M c) → Closed N M
 settled-closed s = record { tri = λ a b c ha hb hc. s c hc .tri a b ha hb; diag = λ a ha. s a ha .diag }
 

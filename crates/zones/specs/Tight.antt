@@ -5,7 +5,7 @@ use Prim.Native.Nat.{ℕ, _+_, _*_, _<_}
 use native.Mathlib.Omega.{arith}
 use native.Mathlib.Decide.{ℕ-discrete}
 use native.Mathlib.Nat.{mul-pos}
-use Rattle.zones.specs.Choice.{choose, choose-yes, choose-no, either}
+use Rattle.basics.specs.Choice.{choose, choose-yes, choose-no, either}
 use Rattle.zones.specs.Bound.{Bound, none, some, half, strict, _⊕_, _⊑_, weak-zero, Sat, ⊑-trans, dec⊑, sum-split}
 use Rattle.zones.specs.Values.{sat-self, self-sat, sat-unscale}
 use Rattle.zones.specs.Matrix.{Matrix, Closed, Flat, Solves}

@@ -4,8 +4,8 @@ use borrow.Author.Tests.{not-true, not-false}
 use mathlib.Core.Path.{_≡_, sym, ap, _∙_}
 use mathlib.Core.Bool.{true}
 use native.Mathlib.Omega.{arith}
+use Rattle.asking.specs.Admission.{inRange}
 use Rattle.demands.specs.declared.Listed.the-variants.{Written}
-use Rattle.demands.specs.Listed.{inRange}
 use Rattle.demands.specs.Answer.{answer-rounds, answer-list, answer-written, kept, in-range-ready}
 use Rattle.demands.proofs.answer.Statement.{statement}
 use Rattle.demands.proofs.answer.Tie as tie

@@ -3,7 +3,7 @@ use borrow.Author.Needs.{needs}
 use mathlib.Core.Path.{sym, _∙_}
 use Prim.Native.Nat.{min}
 use native.Mathlib.Omega.{arith}
-use Rattle.format.specs.Found.{Bytes}
+use Rattle.wire.specs.Records.{Bytes}
 use Rattle.demands.specs.Listed.{rowRoom}
 use Rattle.demands.specs.Accepted.{table-sound, rows-counted, rows-refused}
 use Rattle.demands.proofs.rows.Statement.{statement}

@@ -1,9 +1,8 @@
--- `joins::round_effect` meets its contract. After i steps the closing tells of the first i; the measure is what is left.
-use mathlib.Core.Path.{_≡_}
-use Prim.Native.Nat.{_≤_, _<_, _-_}
-use Rattle.table.specs.Step.{stepsFrom, stepsOf}
-use Rattle.joins.specs.Tells.{Tells}
-use Rattle.joins.specs.Round.{first-tells}
+-- `joins::round_effect` meets its contract. After i steps it has the effect of the first i; the measure is what is left.
+use mathlib.Core.Path.{_≡_, _∙_}
+use Prim.Native.Nat.{_+_, _-_, _≤_, _<_}
+use Rattle.zones.specs.Cells.{answer}
+use Rattle.joins.specs.Round.{firstOf, first-none}
 use borrow.Author.Needs.{needs}
 use native.Mathlib.Omega.{arith}
 use Rattle.joins.proofs.round_effect.Statement.{statement}
@@ -11,7 +10,7 @@ use Rattle.joins.proofs.round_effect.Tie as tie
 
 abbrev Inv-loop : tie.InvT-loop
 Inv-loop t out₀ i₀ out i =
-    (0 < i) × (i ≤ t .steps) × Tells (stepsFrom t 0 i) (out .ok) (out .zone .cells)
+    (0 < i) × (i ≤ t .steps) × (firstOf t (i - 1) ≡ answer (out .ok) (out .zone .cells))
 
 abbrev μ-loop : tie.MeasureT-loop
 μ-loop t out₀ i₀ out i = t .steps - i
@@ -24,8 +23,7 @@ loop-holds c =
     let s = c .before in (
       search needs,
       s .pre .steps-some,
-      first-tells (s .args .t) (s .pre) (c .step-effect .result .ok)
-          (c .step-effect .result .zone .cells) (c .step-effect .ensures),
+      first-none (s .args .t) ∙ c .step-effect .ensures,
     )
 
 step-more-requires : tie.Need-step-more-requires Inv-loop μ-loop
@@ -38,10 +36,12 @@ loop-less : tie.Need-loop-less Inv-loop μ-loop
 loop-less c = search needs
 
 loop-again : tie.Need-loop-again Inv-loop μ-loop
-loop-again c = (search needs, search needs, c .step-more .ensures)
+loop-again c =
+    let h = c .before .before .before in
+    let e : h .loop .i + 1 - 1 ≡ h .loop .i = omega arith in
+    (search needs, search needs, rw e (c .step-more .ensures))
 
 returns : tie.Need-returns Inv-loop μ-loop
-unfolding stepsOf
 returns c =
     let h = c .before .before in
     let e : h .loop .i ≡ h .before .before .args .t .steps = omega arith in

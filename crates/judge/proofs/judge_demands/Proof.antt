@@ -3,9 +3,10 @@ use mathlib.Core.Path.{ap, _∙_}
 use Prim.Native.Nat.{_≤_, _<_}
 use native.Mathlib.Omega.{arith}
 use lib.ListN.{length}
-use Rattle.judge.specs.Numbers.{demandsNumbers}
-use Rattle.judge.specs.Room.{answered}
-use Rattle.judge.specs.Written.{short, roomy-yes, answered-short, row-short, row-roomy}
+use Rattle.numbers.specs.Numbers.{demandsNumbers}
+use Rattle.numbers.specs.Answered.{answered}
+use Rattle.numbers.specs.Answered.{short, roomy-yes, answered-short}
+use Rattle.judge.specs.Row.{row-short, row-roomy}
 use borrow.Author.Needs.{needs}
 use Rattle.judge.proofs.judge_demands.Statement.{statement}
 use Rattle.judge.proofs.judge_demands.Tie as tie

@@ -52,17 +52,18 @@ use denote.Triple.Walked.{goes-gave-slice, Walks, ends-at, walked, walk-meets}
 use denote.Exit.{yes}
 use denote.Signature.{plain}
 use borrow.Table.Elements.{length-take-le, same-len}
-use Rattle.demands.specs.Listed.{listedOf, listRoom, rowOf, listOf}
-use Rattle.demands.specs.declared.Line.{Line}
+use Rattle.demands.specs.Listed.{listedOf, rowOf}
 use Rattle.demands.specs.declared.Listed.{Listed}
-use Rattle.demands.proofs.Line as D
-use Rattle.demands.proofs.Line.Laws as D′
 use Rattle.demands.proofs.Listed as S
 use Rattle.demands.proofs.Listed.Laws as S′
-use Rattle.demands.proofs.demand_list as list
-use Rattle.demands.proofs.demand_list.Symbol as list-def
-use Rattle.demands.proofs.demand_list.Symbol.{name as #demands·demand-list}
-use Rattle.demands.proofs.demand_list.Met as list-thm
+use Rattle.demand_list.specs.Lines.{listRoom, listOf}
+use Rattle.demand_list.specs.declared.Line.{Line}
+use Rattle.demand_list.proofs.Line as D
+use Rattle.demand_list.proofs.Line.Laws as D′
+use Rattle.demand_list.proofs.demand_list as list
+use Rattle.demand_list.proofs.demand_list.Symbol as list-def
+use Rattle.demand_list.proofs.demand_list.Symbol.{name as #demand-list·demand-list}
+use Rattle.demand_list.proofs.demand_list.Met as list-thm
 use Rattle.list_test.specs.declared.Done.{Done}
 use Rattle.list_test.proofs.Done as T
 use Rattle.list_test.proofs.Done.Laws as T′
@@ -241,7 +242,7 @@ module _ {M : Type 1} (𝓤 : URA M) (H : Heap 𝓤) (A : Atoms 𝓤) (W : Given
   typed zs u is = array-typed R (LL.lawful D.the-type D′.the-laws 𝓤 H A W .typed) 13 zs _ is .0
 
   module _ (C : Calls 𝓤 H) (Λ : Loops 𝓤 H) (fm : FmC 𝓤 H (W .laws) C)
-      (known : Triple 𝓤 (C #demands·demand-list) (Lists 𝓤 H A at-mem run)) where
+      (known : Triple 𝓤 (C #demand-list·demand-list) (Lists 𝓤 H A at-mem run)) where
     walk : ent 𝓤 (onEntry 𝓤 H A f.signature (κ₀, (κ, tt)) (q₀, (q, tt)) a vals)
         (WpFn 𝓤 H C Λ code.function (s₀ ∷ kv ∷ s ∷ v ∷ nv ∷ []) Post)
     walk =
@@ -347,7 +348,7 @@ module _ {M : Type 1} (𝓤 : URA M) (H : Heap 𝓤) (A : Atoms 𝓤) (W : Given
 module _ {M : Type 1} (𝓤 : URA M) (H : Heap 𝓤) (A : Atoms 𝓤) (W : Given 𝓤 H A) (at-mem : Memory
     → SProp 𝓤) (run : Routine → Fun 𝓤) where
   run-walks : (C : Calls 𝓤 H) (Λ : Loops 𝓤 H) → FmC 𝓤 H (W .laws) C
-      → Triple 𝓤 (C #demands·demand-list) (Lists 𝓤 H A at-mem run)
+      → Triple 𝓤 (C #demand-list·demand-list) (Lists 𝓤 H A at-mem run)
       → Walks 𝓤 H A f.ended stayed (WpFn 𝓤 H C Λ code.function) (f.clauses 𝓤 H A at-mem run)
   run-walks C Λ fm known =
       walked 𝓤 H A f.ended stayed (f.clauses 𝓤 H A at-mem run) (WpFn 𝓤 H C Λ code.function)
@@ -369,7 +370,7 @@ module _ {M : Type 1} (𝓤 : URA M) (H : Heap 𝓤) (A : Atoms 𝓤) (W : Given
       (are .0 .0 .1) (are .1 .0 .1) (are .1 .1 .0 .0 .1) (are .1 .1 .1 .0) (are .1 .1 .1 .1 .0 .1) able C Λ fm known))
 
 run-meets : {M : Type 1} (𝓤 : URA M) (H : Heap 𝓤) (A : Atoms 𝓤) → Given 𝓤 H A → (at-mem : Memory → SProp 𝓤)
-    (run : Routine → Fun 𝓤) (𝓣 : Tables 𝓤 H) → Triple 𝓤 (𝓣 .C #demands·demand-list) (Lists 𝓤 H A at-mem run)
+    (run : Routine → Fun 𝓤) (𝓣 : Tables 𝓤 H) → Triple 𝓤 (𝓣 .C #demand-list·demand-list) (Lists 𝓤 H A at-mem run)
     → Meets 𝓤 H A f.signature (WpFn 𝓤 H (𝓣 .C) (𝓣 .Λ) code.function) (f.spec 𝓤 H A at-mem run)
 run-meets 𝓤 H A W at-mem run 𝓣 known =
     walk-meets 𝓤 H A f.ended stayed W (
@@ -396,4 +397,4 @@ run-spec 𝓤 H 𝓜 𝓖 𝓡 =
     (code.unfolded 𝓤 H 𝓜 𝓡)
     (run-meets 𝓤 H (𝓖 .A) (givenOf 𝓤 H 𝓜 𝓖) (𝓜 .mem) (𝓡 .run) (tablesOf 𝓤 H 𝓜 (tables 𝓤 H 𝓜 𝓡 code.env))
     (cited 𝓤 H (Lists 𝓤 H (𝓖 .A) (𝓜 .mem)
-    (𝓡 .run)) 𝓜 𝓡 code.env #demands·demand-list list-def.routine code.calls-demands·demand-list (list-thm.met 𝓤 H 𝓜 𝓖 𝓡)))
+    (𝓡 .run)) 𝓜 𝓡 code.env #demand-list·demand-list list-def.routine code.calls-demand-list·demand-list (list-thm.met 𝓤 H 𝓜 𝓖 𝓡)))

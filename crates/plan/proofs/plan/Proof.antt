@@ -1,6 +1,6 @@
 -- The refusal is the reader's, and the answer that of the table.
 use mathlib.Core.Path.{sym, _∙_}
-use Rattle.format.specs.Found.{Bytes}
+use Rattle.wire.specs.Records.{Bytes}
 use Rattle.plan.specs.Admit.{refused-answers, counted-tabled, counted-answers}
 use borrow.Author.Needs.{needs}
 use native.Mathlib.Omega.{arith}

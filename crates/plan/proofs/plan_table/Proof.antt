@@ -1,5 +1,5 @@
 -- The refusal is that of the tests, and the answer that of the solution.
-use mathlib.Core.Path.{sym, _∙_}
+use mathlib.Core.Path.{refl, sym, _∙_}
 use Rattle.plan.specs.Admit.{meets-refused}
 use Rattle.plan.specs.Trimmed.{trim-ready, trim-meets}
 use borrow.Author.Needs.{needs}
@@ -27,7 +27,7 @@ solve-here-requires c κs =
 
 returns : tie.Need-returns
 returns c =
-    meets-refused _ _ _ _ _ (sym (c .before .before .before .admit .ensures) ∙ c .before .admission .given .1)
+    meets-refused _ _ _ _ _ _ (sym (c .before .before .before .admit .ensures) ∙ c .before .admission .given .1) refl
 
 same-length : tie.Need-same-length
 same-length c = search needs

@@ -1,7 +1,10 @@
 -- What the passes end with is written out as the answer.
 use Rattle.plan.specs.Solve.{start-ready, answer-times, answer-startable, answer-returns}
 use Rattle.plan.specs.Solve.{answer-loop, answer-moments, answer-found}
+use Rattle.paths.specs.State.{state}
+use Rattle.relaxing.specs.Ending.{Ready}
 use borrow.Author.Needs.{needs}
+use native.Mathlib.Omega.{arith}
 use Rattle.plan.proofs.solve.Statement.{statement}
 use Rattle.plan.proofs.solve.Tie as tie
 
@@ -20,6 +23,17 @@ third c = c .before .before .before .before .before .before
 
 abbrev passed : tie.After-slice-known14 → tie.After-passes
 passed c = c .before .before .before .before .before .before .before .before
+
+abbrev start : tie.After-fill3 → tie.Start
+start c = entry (first (second c))
+
+-- the passes begin with the start values
+ready : (c : tie.After-fill3) → Ready (start c .args .t) (start c .args .k)
+    (state (second c .fill2 .last .0) (start c .args .parent .now) (c .fill3 .last .0)) (start c .args .marks .now)
+ready c =
+    let s = start c in
+    start-ready (s .args .t) (s .args .k) (s .pre .0) _ _ _ _ _ _ _ (s .pre .2) (first (second c) .fill .ensures)
+    (second c .fill2 .ensures) (c .fill3 .ensures)
 
 mul-total : tie.Need-mul-total
 mul-total c = search needs
@@ -47,18 +61,15 @@ fill-requires-3 c κs = search needs
 
 passes-requires : tie.Need-passes-requires
 passes-requires c κs =
-    let f = third c in let s = entry (first (second f)) in
-    start-ready _ _ (s .pre .0) _ _ _ _ _ _ _ (s .pre .2) (first (second f) .fill .ensures) (second f .fill2 .ensures)
-    (f .fill3 .ensures)
+    ready (third c)
 
 write-cycle-requires : tie.Need-write-cycle-requires
 write-cycle-requires c κs =
-    let p = passed (c .before .before .before) in let f = third (p .before) in let s = entry (first (second f)) in
+    let p = passed (c .before .before .before) in let f = third (p .before) in let s = start f in
     answer-returns _ _ (s .pre .0) _ _ _
-    (start-ready _ _ (s .pre .0) _ _ _ _ _ _ _ (s .pre .2) (first (second f) .fill .ensures)
-    (second f .fill2 .ensures) (f .fill3 .ensures) .begins)
+    (ready f .begins)
     (p .passes .ensures)
-    _ (s .pre .1 .loop) (c .before .before .if1 .taken)
+    _ (s .pre .1 .loop) (omega (arith, c .before .before .if1 .taken))
 
 same-length : tie.Need-same-length
 same-length c = search needs
@@ -79,36 +90,35 @@ returns : tie.Need-returns
 returns c =
     let p = passed (c .before .before .before .before .before .before) in
     let f = third (p .before) in
-    let s = entry (first (second f)) in
+    let s = start f in
     answer-loop _ _ (s .pre .0) _ _ _
-    (start-ready _ _ (s .pre .0) _ _ _ _ _ _ _ (s .pre .2) (first (second f) .fill .ensures)
-    (second f .fill2 .ensures) (f .fill3 .ensures) .begins)
+    (ready f .begins)
     (p .passes .ensures)
-    (c .before .before .before .before .before .if1 .taken) _ _ _ _ _ (c .before .before .write-cycle .ensures)
+    (omega (arith, c .before .before .before .before .before .if1 .taken)) _ _ _ _ _ (c .before .before .write-cycle .ensures)
 
 write-moments-requires : tie.Need-write-moments-requires
 write-moments-requires c κs =
-    let p = passed (c .before .before .before) in let f = third (p .before) in let s = entry (first (second f)) in (
-      answer-times _ _ (s .pre .0) _ _ _
-          (start-ready _ _ (s .pre .0) _ _ _ _ _ _ _ (s .pre .2) (first (second f) .fill .ensures)
-          (second f .fill2 .ensures) (f .fill3 .ensures) .begins)
-          (p .passes .ensures),
-      s .pre .1 .times,
-      answer-moments _ _ (s .pre .0) _ _ _
-          (start-ready _ _ (s .pre .0) _ _ _ _ _ _ _ (s .pre .2) (first (second f) .fill .ensures)
-          (second f .fill2 .ensures) (f .fill3 .ensures) .begins)
+    let p = passed (c .before .before .before) in let f = third (p .before) in let s = start f in (
+      omega (
+        arith,
+        answer-times _ _ (s .pre .0) _ _ _
+            (ready f .begins)
+            (p .passes .ensures),
+      ),
+      omega (arith, s .pre .1 .times),
+      λ i l. answer-moments _ _ (s .pre .0) _ _ _
+          (ready f .begins)
           (p .passes .ensures)
-          (c .before .before .if1 .left),
+          (c .before .before .if1 .left) i (omega arith),
     )
 
 write-starts-requires : tie.Need-write-starts-requires
 write-starts-requires c κs =
     let p = passed (c .before .before .before .before .before .before .before .before) in
     let f = third (p .before) in
-    let s = entry (first (second f)) in
+    let s = start f in
     answer-startable _ _ (s .pre .0) _ _ _
-    (start-ready _ _ (s .pre .0) _ _ _ _ _ _ _ (s .pre .2) (first (second f) .fill .ensures)
-    (second f .fill2 .ensures) (f .fill3 .ensures) .begins)
+    (ready f .begins)
     (p .passes .ensures)
     _ (s .pre .1 .starts)
 
@@ -134,12 +144,11 @@ returns-2 : tie.Need-returns-2
 returns-2 c =
     let p = passed (c .before .before .before .before .before .before .before .before .before .before .before) in
     let f = third (p .before) in
-    let s = entry (first (second f)) in
+    let s = start f in
     answer-found _ _ (s .pre .0) _ _ _
-    (start-ready _ _ (s .pre .0) _ _ _ _ _ _ _ (s .pre .2) (first (second f) .fill .ensures)
-    (second f .fill2 .ensures) (f .fill3 .ensures) .begins)
+    (ready f .begins)
     (p .passes .ensures)
-    (c .before .before .before .before .before .before .before .before .before .before .if1 .left) _ (s .pre .1) _ _
+    (c .before .before .before .before .before .before .before .before .before .before .if1 .left) _ (s .pre .1) _ _ _ (omega arith)
     (c .before .before .before .before .before .before .before .write-moments .ensures)
     (c .before .before .write-starts .ensures)
 

@@ -6,10 +6,10 @@ use Rattle.plan_test.proofs.room.Statement.{statement}
 use Rattle.plan_test.proofs.room.Tie as tie
 
 abbrev Inv-loop : tie.InvT-loop
-Inv-loop name cells from i₀ t5 t6 i = Unit {0}
+Inv-loop name cells from i₀ t5 i = Unit {0}
 
 abbrev μ-loop : tie.MeasureT-loop
-μ-loop name cells from i₀ t5 t6 i = length cells - i
+μ-loop name cells from i₀ t5 i = length cells - i
 
 word-requires : tie.Need-word-requires Inv-loop μ-loop
 word-requires c κs = search needs
@@ -38,12 +38,6 @@ loop-less c = search needs
 loop-again : tie.Need-loop-again Inv-loop μ-loop
 loop-again c = search needs
 
-slice-aggregate-word : tie.Need-slice-aggregate-word Inv-loop μ-loop
-slice-aggregate-word c = search needs
-
-word-requires-2 : tie.Need-word-requires-2 Inv-loop μ-loop
-word-requires-2 c κs = search needs
-
 returns : tie.Need-returns Inv-loop μ-loop
 returns c = search needs
 
@@ -62,6 +56,4 @@ room-spec =
     add-i
     loop-less
     loop-again
-    slice-aggregate-word
-    word-requires-2
     returns)

@@ -9,11 +9,11 @@ use Rattle.render.proofs.put_count.Tie as tie
 enum-known-count : tie.Need-enum-known-count
 enum-known-count c = search needs
 
-slice-aggregate-put-line : tie.Need-slice-aggregate-put-line
-slice-aggregate-put-line c = search needs
+slice-aggregate-put-line1 : tie.Need-slice-aggregate-put-line1
+slice-aggregate-put-line1 c = search needs
 
-put-line-requires : tie.Need-put-line-requires
-put-line-requires c κs = search needs
+put-line1-requires : tie.Need-put-line1-requires
+put-line1-requires c κs = search needs
 
 enum-told : tie.Need-enum-told
 enum-told c = search needs
@@ -34,7 +34,7 @@ returns : tie.Need-returns
 unfolding countLine
 returns c =
     let told = c .before .before .before .before .before .before .count .given .1 in
-    (written-as (sym (ap countLine told)) (c .before .before .put-line .ensures .0), search needs)
+    (written-as (sym (ap countLine told)) (c .before .before .put-line1 .ensures .0), search needs)
 
 same-length-2 : tie.Need-same-length-2
 same-length-2 c = search needs
@@ -54,8 +54,8 @@ put-count-spec =
     tie.close
     (tie.spec
     enum-known-count
-    slice-aggregate-put-line
-    put-line-requires
+    slice-aggregate-put-line1
+    put-line1-requires
     enum-told
     slice-aggregate-put-word
     put-word-requires

@@ -1,10 +1,10 @@
 -- The first line, the count, and the plan if rounds are planned.
 use borrow.Author.Needs.{needs}
 use native.Mathlib.Omega.{arith}
-use Rattle.format.specs.Found.{Bytes}
+use Rattle.wire.specs.Records.{Bytes}
 use Rattle.text.specs.Over.{written-then}
-use Rattle.render.specs.Accepted.{tabled, plannable}
-use Rattle.render.specs.Writes.{accepted-counts, writes-none, writes-plan}
+use Rattle.plan_report.specs.Accepted.{tabled}
+use Rattle.render.specs.Writes.{plannable, accepted-counts, writes-none, writes-plan}
 use Rattle.render.proofs.put_table.Statement.{statement}
 use Rattle.render.proofs.put_table.Tie as tie
 

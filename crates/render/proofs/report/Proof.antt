@@ -26,8 +26,14 @@ enum-known-answer-2 c = search needs
 number-requires : tie.Need-number-requires
 number-requires c κs = search needs
 
-put-refused-requires : tie.Need-put-refused-requires
-put-refused-requires c κs = search needs
+slice-aggregate-put-line2 : tie.Need-slice-aggregate-put-line2
+slice-aggregate-put-line2 c = search needs
+
+slice-aggregate-put-line2-2 : tie.Need-slice-aggregate-put-line2-2
+slice-aggregate-put-line2-2 c = search needs
+
+put-line2-requires : tie.Need-put-line2-requires
+put-line2-requires c κs = search needs
 
 same-length : tie.Need-same-length
 same-length c = search needs
@@ -44,12 +50,11 @@ same-length-2 c = search needs
 
 returns-3 : tie.Need-returns-3
 returns-3 c =
-    let refused = c .before .before in
-    let read = c .before .before .before .before .before .before .before .before in
-    let told = c .before .before .before .before .before .before .answer2 .given .1 in
-    let number = refused .before .number .ensures in
-    let line = refused .put-refused .ensures .0 in
-    (reported-refused _ _ (search needs) (search needs) _ _ _ (read .read .ensures) told number line, search needs)
+    let line = c .before .before .put-line2 .ensures .0 in
+    let number = c .before .before .before .before .before .before in
+    let told = number .before .before .answer2 .given .1 in
+    let read = number .before .before .before .before .read .ensures in
+    (reported-refused _ _ (search needs) (search needs) _ _ _ read told (number .number .ensures) line, search needs)
 
 pub report-spec : {M : Type 1} → statement M
 report-spec =
@@ -61,7 +66,9 @@ report-spec =
     put-table-requires
     enum-known-answer-2
     number-requires
-    put-refused-requires
+    slice-aggregate-put-line2
+    slice-aggregate-put-line2-2
+    put-line2-requires
     same-length
     returns-2
     same-length-2

@@ -5,7 +5,7 @@ use borrow.Author.Needs.{needs}
 use borrow.Author.Tests.{not-true, not-false}
 use borrow.Fn.Kinds.{In}
 use borrow.Fn.PlainCycle.{Measures, is, falls, and}
-use Rattle.rounds.specs.Searching.{Power, searched-limit, twice-joinable}
+use Rattle.rounds.specs.Searching.{Power, searched-is, searched-limit, twice-joinable}
 use Rattle.rounds.specs.Searching.{Doubled, double-small, searched-top, searched-settled, twice-of}
 use Rattle.rounds.specs.Searching.{Above, searched-on, more-small, more-joinable, searched-same, searched-more}
 use Rattle.rounds.proofs.climb.Reads as climb
@@ -14,6 +14,7 @@ use Rattle.rounds.proofs.+climb.Lts-climb as climb-lts
 use Rattle.joins.proofs.join.Reads as join-reads
 use Rattle.rounds.proofs.same_left.Reads as same-left-reads
 use Rattle.rounds.proofs.without_end.Reads as without-end-reads
+use Rattle.rounds.proofs.counted.Reads as counted-reads
 use Rattle.rounds.proofs.+climb.{statement}
 use Rattle.rounds.proofs.+climb.Tie.{close}
 
@@ -33,6 +34,8 @@ calls t = (
   without-end-reads.Learnt,
   join-reads.Asked,
   join-reads.Learnt,
+  counted-reads.Asked,
+  counted-reads.Learnt,
   same-left-reads.Asked,
   same-left-reads.Learnt,
   climb-below t,
@@ -73,8 +76,13 @@ climb-returns t c =
 climb-join-requires : (t : ℕ) → climb-lts.Need-join-requires (calls t) (climb-at t) climb.Post
 climb-join-requires t c κs = twice-joinable (power t (c .before)) (c .before .args .e .cells) (c .before .pre .1 .2)
 
+climb-counted-requires : (t : ℕ) → climb-lts.Need-counted-requires (calls t) (climb-at t) climb.Post
+climb-counted-requires t c κs = search needs
+
 climb-returns-2 : (t : ℕ) → climb-lts.Need-returns-2 (calls t) (climb-at t) climb.Post
-climb-returns-2 t c = searched-top (doubled t (c .before .before)) (not-true _ (c .if2 .taken))
+climb-returns-2 t c =
+    let f = c .before in
+    searched-is (searched-top (doubled t (f .before .before)) (not-true _ (f .if2 .taken))) _ _ _ (c .counted .ensures)
 
 climb-same-left-requires : (t : ℕ) → climb-lts.Need-same-left-requires (calls t) (climb-at t) climb.Post
 climb-same-left-requires t c κs = search needs
@@ -122,18 +130,23 @@ climb-returns-5 t c =
     searched-same (above t (j .before .before .before)) (j .before .before .if4 .left) _ _ (j .join2 .ensures)
     (not-true _ (c .if5 .taken))
 
-climb-add-t13 : (t : ℕ) → climb-lts.Need-add-t13 (calls t) (climb-at t) climb.Post
-climb-add-t13 t c =
+climb-add-counted : (t : ℕ) → climb-lts.Need-add-counted (calls t) (climb-at t) climb.Post
+climb-add-counted t c =
     let e = c .before .before .before .before .before .before in
     let k = e .before in
     let s = k .before .before .before .before .before .before .before .before in
     omega (arith, more-small (above t k) (e .if4 .left) (s .pre .1 .2))
 
+climb-counted-requires-2 : (t : ℕ) → climb-lts.Need-counted-requires-2 (calls t) (climb-at t) climb.Post
+climb-counted-requires-2 t c κs = search needs
+
 climb-returns-6 : (t : ℕ) → climb-lts.Need-returns-6 (calls t) (climb-at t) climb.Post
 climb-returns-6 t c =
-    let j = c .before .before .before .before in
-    searched-more (above t (j .before .before .before)) (j .before .before .if4 .left) _ _ (j .join2 .ensures)
-    (not-false _ (c .before .before .if5 .left))
+    let l = c .before .before .before in
+    let j = l .before .before in
+    searched-is
+    (searched-more (above t (j .before .before .before)) (j .before .before .if4 .left) _ _ (j .join2 .ensures)
+    (not-false _ (l .if5 .left))) _ _ _ (c .counted2 .ensures)
 
 pub +climb-spec : {M : Type 1} → statement M
 +climb-spec = close μ-climb λ t. climb-lts.spec (calls t)
@@ -142,6 +155,7 @@ pub +climb-spec : {M : Type 1} → statement M
     (climb-without-end-requires t)
     (climb-returns t)
     (climb-join-requires t)
+    (climb-counted-requires t)
     (climb-returns-2 t)
     (climb-same-left-requires t)
     (climb-without-end-requires-2 t)
@@ -152,5 +166,6 @@ pub +climb-spec : {M : Type 1} → statement M
     (climb-returns-4 t)
     (climb-join-requires-2 t)
     (climb-returns-5 t)
-    (climb-add-t13 t)
+    (climb-add-counted t)
+    (climb-counted-requires-2 t)
     (climb-returns-6 t)

@@ -1,6 +1,7 @@
 -- `rounds::rounds_of` meets its contract: one round has no run, or the search goes on from its effect.
 use borrow.Author.Tests.{not-true, not-false}
 use Rattle.table.specs.Step.{stepsOf}
+use Rattle.joins.specs.Round.{round-tells}
 use Rattle.rounds.specs.Climbing.{Rounds}
 use Rattle.rounds.specs.Counting.{good-tabled, starts, starts-free}
 use Rattle.rounds.specs.Counting.{counts-none, counts-one, counts-endless, counts-finite}
@@ -21,7 +22,8 @@ returns c =
     let e = c .before .before in
     let s = e .before in
     counts-none (s .args .t .clocks) (few s) (stepsOf (s .args .t)) (good-tabled (s .args .t) (s .pre))
-    (e .round-effect .result .ok) (e .round-effect .result .zone .cells) (e .round-effect .ensures)
+    (e .round-effect .result .ok) (e .round-effect .result .zone .cells)
+    (round-tells (s .args .t) (s .pre) _ _ (e .round-effect .ensures))
     (not-true _ (c .if1 .taken))
 
 one : (c : tie.Else1)
@@ -30,7 +32,8 @@ one c =
     let e = c .before .before in
     let s = e .before in
     counts-one (s .args .t .clocks) (few s) (stepsOf (s .args .t)) (good-tabled (s .args .t) (s .pre))
-    (e .round-effect .result .ok) (e .round-effect .result .zone .cells) (e .round-effect .ensures)
+    (e .round-effect .result .ok) (e .round-effect .result .zone .cells)
+    (round-tells (s .args .t) (s .pre) _ _ (e .round-effect .ensures))
     (not-false _ (c .if1 .left))
 
 climb-requires : tie.Need-climb-requires

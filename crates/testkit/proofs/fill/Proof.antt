@@ -4,7 +4,7 @@ use mathlib.Core.Path.{_≡_, refl, ap, _∙_}
 use Prim.Native.Nat.{ℕ, _<_, _≤_, _-_}
 use native.Mathlib.Omega.{arith}
 use lib.ListN.{length, getD, length-set}
-use Rattle.zones.specs.Tab.{is-tab, tab-more}
+use Rattle.basics.specs.Tab.{is-tab, tab-more}
 use Rattle.testkit.specs.Filled.{byteAt, filledOf}
 use Rattle.testkit.proofs.fill.Statement.{statement}
 use Rattle.testkit.proofs.fill.Tie as tie

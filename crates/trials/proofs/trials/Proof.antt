@@ -1,4 +1,4 @@
--- `trials::trials` meets its contract: the loop keeps the length of `tally` and of `grid` and of `seed`; the measure is `3000 - number`.
+-- `trials::trials` meets its contract: the rows keep their lengths.
 use borrow.Author.Needs.{needs}
 use mathlib.Core.Path.{_≡_}
 use Prim.Native.Nat.{_-_}
@@ -7,16 +7,13 @@ use Rattle.trials.proofs.trials.Statement.{statement}
 use Rattle.trials.proofs.trials.Tie as tie
 
 abbrev Inv-loop : tie.InvT-loop
-Inv-loop tally₀ grid₀ seed₀ number₀ tally grid seed number = (length tally ≡ length tally₀) × (length grid ≡ length grid₀) × (length seed ≡ length seed₀)
+Inv-loop tally₀ grid₀ seed₀ number₀ tally grid seed number = (length tally ≡ length tally₀) × (length grid ≡ length grid₀)
 
 abbrev μ-loop : tie.MeasureT-loop
 μ-loop tally₀ grid₀ seed₀ number₀ tally grid seed number = 3000 - number
 
 loop-holds : tie.Need-loop-holds Inv-loop μ-loop
 loop-holds c = search needs
-
-slice-aggregate-trial : tie.Need-slice-aggregate-trial Inv-loop μ-loop
-slice-aggregate-trial c = search needs
 
 trial-requires : tie.Need-trial-requires Inv-loop μ-loop
 trial-requires c κs = search needs
@@ -46,7 +43,6 @@ trials-spec =
     Inv-loop
     μ-loop
     loop-holds
-    slice-aggregate-trial
     trial-requires
     add-number
     loop-less

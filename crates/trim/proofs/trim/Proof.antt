@@ -3,7 +3,6 @@ use mathlib.Core.Path.{refl}
 use Prim.Native.Nat.{_-_}
 use Rattle.trim.specs.Trims.{Done, done-first, done-next, done-last}
 use borrow.Author.Needs.{needs}
-use native.Mathlib.Omega.{arith}
 use Rattle.trim.proofs.trim.Statement.{statement}
 use Rattle.trim.proofs.trim.Tie as tie
 

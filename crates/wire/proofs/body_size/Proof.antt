@@ -1,6 +1,6 @@
 -- `wire::body_size` meets its contract: each kind's test is the definition's.
 use borrow.Author.Needs.{needs}
-use Rattle.wire.proofs.Tests.{tests}
+use Rattle.wire.specs.Tests.{tests}
 use Rattle.wire.proofs.body_size.Statement.{statement}
 use Rattle.wire.proofs.body_size.Tie as tie
 

@@ -1,7 +1,7 @@
 -- `wire::take_end` meets its contract: the tests come in the definition's order.
 use borrow.Author.Needs.{needs}
 use Rattle.wire.specs.Reading.{ended}
-use Rattle.wire.proofs.Tests.{tests}
+use Rattle.wire.specs.Tests.{tests}
 use Rattle.wire.proofs.take_end.Statement.{statement}
 use Rattle.wire.proofs.take_end.Tie as tie
 

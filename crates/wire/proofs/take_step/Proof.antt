@@ -1,7 +1,8 @@
 -- `wire::take_step` meets its contract: the tests come in the definition's order.
 use borrow.Author.Needs.{needs}
+use native.Mathlib.Omega.{arith}
+use borrow.Author.Tests.{lt-ltb, le-ltb}
 use Rattle.wire.specs.Reading.{finished}
-use Rattle.wire.proofs.Tests.{tests}
 use Rattle.wire.proofs.take_step.Statement.{statement}
 use Rattle.wire.proofs.take_step.Tie as tie
 
@@ -10,14 +11,18 @@ refuse-requires c κs = search needs
 
 returns : tie.Need-returns
 unfolding finished
-returns c = search (needs, tests)
+returns c =
+    let n = c .before .before .before .args .t .steps in
+    simp (le-ltb n 16 (omega (arith, c .before .if1 .taken))) (c .refuse .ensures)
 
 add-t5 : tie.Need-add-t5
 add-t5 c = search needs
 
 returns-2 : tie.Need-returns-2
 unfolding finished
-returns-2 c = search (needs, tests)
+returns-2 c =
+    let n = c .before .before .before .args .t .steps in
+    simp (lt-ltb n 16 (omega (arith, c .before .if1 .left)))
 
 pub take-step-spec : {M : Type 1} → statement M
 take-step-spec = tie.close (tie.spec refuse-requires returns add-t5 returns-2)

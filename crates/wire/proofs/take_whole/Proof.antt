@@ -4,7 +4,7 @@ use mathlib.Core.Path.{sym, ap, _∙_}
 use Prim.Native.Nat.{_+_}
 use lib.ListN.{drop}
 use Rattle.wire.specs.Records.{recordAt}
-use Rattle.wire.specs.Reading.{headed, zeroed, wholeOf}
+use Rattle.wire.specs.Reading.{headed, cleared, wholeOf}
 use Rattle.wire.proofs.Bytes.{head-is, reset-is, step-is, end-is}
 use Rattle.wire.proofs.take_whole.Statement.{statement}
 use Rattle.wire.proofs.take_whole.Tie as tie
@@ -44,7 +44,7 @@ take-reset-requires c κs = search needs
 returns-3 : tie.Need-returns-3
 returns-3 c =
     let s = c .before .before .before .before .before .before in
-    c .take-reset .ensures ∙ ap (zeroed (s .args .t) (s .args .at)) (c .before .byte-at2 .ensures .0)
+    c .take-reset .ensures ∙ ap (cleared (s .args .t) (s .args .at)) (c .before .byte-at2 .ensures .0)
     ∙ reset-is (s .args .bytes .now) (s .args .at) (s .args .t) (s .args .k) (c .before .before .if3 .taken)
 
 take-step-requires : tie.Need-take-step-requires

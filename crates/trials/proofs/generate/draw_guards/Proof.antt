@@ -1,4 +1,4 @@
--- `trials::generate::draw_guards` meets its contract: the loop keeps the length of `seed` and of `t`; the measure is `guards - g`.
+-- `trials::generate::draw_guards` meets its contract: the row keeps its length.
 use borrow.Author.Needs.{needs}
 use mathlib.Core.Path.{_≡_}
 use Prim.Native.Nat.{_-_}
@@ -7,10 +7,10 @@ use Rattle.trials.proofs.generate.draw_guards.Statement.{statement}
 use Rattle.trials.proofs.generate.draw_guards.Tie as tie
 
 abbrev Inv-loop : tie.InvT-loop
-Inv-loop seed₀ t₀ guards g₀ seed t g = (length seed ≡ length seed₀) × (length t ≡ length t₀)
+Inv-loop t₀ guards g₀ t g = length t ≡ length t₀
 
 abbrev μ-loop : tie.MeasureT-loop
-μ-loop seed₀ t₀ guards g₀ seed t g = guards - g
+μ-loop t₀ guards g₀ t g = guards - g
 
 get-requires : tie.Need-get-requires Inv-loop μ-loop
 get-requires c κs = search needs
@@ -33,9 +33,6 @@ loop-again c = search needs
 same-length : tie.Need-same-length Inv-loop μ-loop
 same-length c = search needs
 
-same-length-2 : tie.Need-same-length-2 Inv-loop μ-loop
-same-length-2 c = search needs
-
 returns : tie.Need-returns Inv-loop μ-loop
 returns c = search needs
 
@@ -52,5 +49,4 @@ draw-guards-spec =
     loop-less
     loop-again
     same-length
-    same-length-2
     returns)

@@ -1,4 +1,4 @@
--- `trials::generate::draw_resets` meets its contract: the loop keeps the length of `seed` and of `t`; the measure is `9 - i`.
+-- `trials::generate::draw_resets` meets its contract: the row keeps its length.
 use borrow.Author.Needs.{needs}
 use mathlib.Core.Path.{_≡_}
 use Prim.Native.Nat.{_-_}
@@ -7,10 +7,10 @@ use Rattle.trials.proofs.generate.draw_resets.Statement.{statement}
 use Rattle.trials.proofs.generate.draw_resets.Tie as tie
 
 abbrev Inv-loop : tie.InvT-loop
-Inv-loop seed₀ t₀ i₀ seed t i = (length seed ≡ length seed₀) × (length t ≡ length t₀)
+Inv-loop t₀ i₀ t i = length t ≡ length t₀
 
 abbrev μ-loop : tie.MeasureT-loop
-μ-loop seed₀ t₀ i₀ seed t i = 9 - i
+μ-loop t₀ i₀ t i = 9 - i
 
 loop-holds : tie.Need-loop-holds Inv-loop μ-loop
 loop-holds c = search needs
@@ -36,9 +36,6 @@ loop-again c = search needs
 same-length : tie.Need-same-length Inv-loop μ-loop
 same-length c = search needs
 
-same-length-2 : tie.Need-same-length-2 Inv-loop μ-loop
-same-length-2 c = search needs
-
 returns : tie.Need-returns Inv-loop μ-loop
 returns c = search needs
 
@@ -56,5 +53,4 @@ draw-resets-spec =
     loop-less
     loop-again
     same-length
-    same-length-2
     returns)

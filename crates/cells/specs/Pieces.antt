@@ -1,0 +1,79 @@
+-- The demands of a guard, and of the starts, written one after the other.
+use mathlib.Core.Path.{_≡_, refl, sym, _∙_, ap}
+use mathlib.Core.Bool.{Bool, true, false, cond}
+use mathlib.Core.List.{List, [], _∷_, _++_}
+use Prim.Native.Nat.{ℕ, suc, _+_, _-_, _≤_, _<_}
+use native.Mathlib.Numerals.{add-one}
+use native.Mathlib.Omega.{arith}
+use lib.IntN.{ℤ}
+use Rattle.table.specs.declared.Guard.{Guard}
+use Rattle.table.specs.declared.Relation.{Relation}
+use Rattle.table.specs.declared.Relation.the-variants.{Under, AtMost, Exactly, AtLeast, Over}
+use Rattle.runs.specs.declared.Demand.{Demand}
+use Rattle.runs.specs.Demand.{plus, guardDemands, startDemands, anyStarts}
+use Rattle.runs.specs.DemandOrder.{startDemands-zero, startDemands-suc}
+use Rattle.constraints.specs.Pieces.{guardDemand, twiceOf}
+use Rattle.cells.specs.Writing.{Fits, Wrote, Left, left-all, fits-front, left-next, left-done, left-as}
+
+-- ---- a guard: its first demand, and the second where it has two
+-- the demands of a guard at moment i, when its clock was last reset at moment z
+abbrev pub demandsAt : Guard → ℕ → ℕ → List Demand
+demandsAt g z i = guardDemands (g .relation) (g .constant) z i
+
+abbrev seconds : Relation → ℕ → ℕ → ℕ → List Demand
+seconds r c z i = cond (twiceOf r) (guardDemand r c z i true ∷ []) []
+
+guard-split : (r : Relation) (c z i : ℕ) → guardDemands r c z i ≡ (guardDemand r c z i false ∷ []) ++ seconds r c z i
+guard-split Under c z i = refl
+guard-split AtMost c z i = refl
+guard-split Exactly c z i = refl
+guard-split AtLeast c z i = refl
+guard-split Over c z i = refl
+
+module _ (g : Guard) (z i : ℕ) {old : List ℤ} {q : ℕ} (f : Fits old q (demandsAt g z i)) {a : Demand}
+    (e : a ≡ guardDemand (g .relation) (g .constant) z i false) where
+  abbrev others : List Demand
+  others = seconds (g .relation) (g .constant) z i
+
+  first-left : Left old q (demandsAt g z i) old q ((a ∷ []) ++ others)
+  first-left = left-as (guard-split (g .relation) (g .constant) z i ∙ ap (λ x. (x ∷ []) ++ others) (sym e)) (left-all f)
+
+  pub first-fits : Fits old q (a ∷ [])
+  first-fits = fits-front (a ∷ []) others (first-left .fits)
+
+  module _ {row : List ℤ} {p : ℕ} (w : Wrote old q (a ∷ []) row p) where
+    others-are : (b : Bool) → twiceOf (g .relation) ≡ b
+        → Left old q (demandsAt g z i) row p (cond b (guardDemand (g .relation) (g .constant) z i true ∷ []) [])
+    others-are b n =
+        left-as (ap (λ x. cond x (guardDemand (g .relation) (g .constant) z i true ∷ []) []) n)
+        (left-next (a ∷ []) others first-left w)
+
+    pub guard-once : twiceOf (g .relation) ≡ false → Wrote old q (demandsAt g z i) row p
+    guard-once n = left-done (others-are false n)
+
+    module _ {b : Demand} (n : twiceOf (g .relation) ≡ true)
+        (d : b ≡ guardDemand (g .relation) (g .constant) z i true) where
+      second-left : Left old q (demandsAt g z i) row p (b ∷ [])
+      second-left = left-as (ap (λ x. x ∷ []) (sym d)) (others-are true n)
+
+      pub second-fits : Fits row p (b ∷ [])
+      second-fits = second-left .fits
+
+      pub guard-twice : {row′ : List ℤ} {p′ : ℕ} → Wrote row p (b ∷ []) row′ p′ → Wrote old q (demandsAt g z i) row′ p′
+      guard-twice v = left-done (left-next (b ∷ []) [] second-left v)
+
+-- ---- the starts of n clocks, of which those from clock j on are left
+abbrev pub startsLeft : ℕ → ℕ → ℕ → List Demand
+startsLeft K n j = startDemands K anyStarts j (n + 1 - j)
+
+pub starts-all : (K n : ℕ) → startDemands K anyStarts 1 n ≡ startsLeft K n 1
+starts-all K n = let e : n ≡ n + 1 - 1 = omega arith in ap (startDemands K anyStarts 1) e
+
+pub starts-more : (K n j : ℕ) → j ≤ n → startsLeft K n j ≡ (plus 0 (K + j) 0 false ∷ []) ++ startsLeft K n (j + 1)
+unfolding anyStarts
+starts-more K n j l =
+    let e : n + 1 - j ≡ suc (n + 1 - (j + 1)) = omega arith in
+    rw (e, add-one j) (startDemands-suc K anyStarts j (n + 1 - (suc j)))
+
+pub starts-end : (K n j : ℕ) → n < j → startsLeft K n j ≡ []
+starts-end K n j l = let e : n + 1 - j ≡ 0 = omega arith in ap (startDemands K anyStarts j) e ∙ startDemands-zero K anyStarts j

@@ -1,0 +1,55 @@
+-- k rounds of a good table, with at most 1024 steps: their moments, and their demands in two parts.
+use mathlib.Core.Path.{_≡_, ap, _∙_}
+use mathlib.Core.List.{List, _++_}
+use Prim.Native.Nat.{ℕ, _+_, _*_, _≤_}
+use native.Mathlib.Omega.{arith}
+use lib.ListN.{length}
+use Rattle.table.specs.Step.{Step, stepsOf, Good}
+use Rattle.table.specs.declared.Table.{Table}
+use Rattle.runs.specs.Run.{copies}
+use Rattle.runs.specs.declared.Demand.{Demand}
+use Rattle.runs.specs.Demand.{stepsDemands, startDemands, anyStarts, Clocks}
+use Rattle.runs.specs.DemandOrder.{demands-is}
+use Rattle.runs.specs.DemandRange.{Proper}
+use Rattle.runs.specs.Tools.{Every}
+use Rattle.constraints.specs.Rounds.{length-rounds}
+use Rattle.constraints.specs.Demands.{demandsOf, all-proper}
+
+-- a good table whose guards are on its own clocks
+pub record Tabled (t : Table) : Type 0 where
+  pub good : Good t
+  pub clocks : Clocks (t .clocks) (stepsOf t)
+
+-- such a table, and k rounds of it with at most 1024 steps
+pub record Sized (t : Table) (k : ℕ) : Type 0 where
+  pub good : Good t
+  pub clocks : Clocks (t .clocks) (stepsOf t)
+  pub some : 1 ≤ k
+  pub few : k * t .steps ≤ 1024
+
+-- the steps of k rounds
+abbrev pub roundsOf : Table → ℕ → List Step
+roundsOf t k = copies (stepsOf t) k
+
+-- the number of moments, which is also the number of parts to a tick
+abbrev pub partsOf : Table → ℕ → ℕ
+partsOf t k = k * t .steps + t .clocks + 1
+
+-- the demands of the steps, and those of the starts
+abbrev pub stepsPart : Table → ℕ → List Demand
+stepsPart t k = stepsDemands (roundsOf t k) 0 (λ j. length (roundsOf t k) + j)
+
+abbrev pub startsPart : Table → ℕ → List Demand
+startsPart t k = startDemands (k * t .steps) anyStarts 1 (t .clocks)
+
+pub parts-are : (t : Table) (k : ℕ) → demandsOf t k ≡ stepsPart t k ++ startsPart t k
+parts-are t k =
+    demands-is (t .clocks) (roundsOf t k) anyStarts
+    ∙ ap (λ n. stepsPart t k ++ startDemands n anyStarts 1 (t .clocks)) (length-rounds t k)
+
+module _ (t : Table) (k : ℕ) (z : Sized t k) where
+  pub sized-parts : partsOf t k ≤ 1031
+  sized-parts = omega (arith, z .few, z .good .clocks-few)
+
+  pub sized-proper : Every (Proper (k * t .steps + t .clocks)) (demandsOf t k)
+  sized-proper = all-proper t k (z .good) (z .clocks)

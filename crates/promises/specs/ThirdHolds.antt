@@ -1,0 +1,77 @@
+-- The third promise holds.
+use mathlib.Core.Path.{_≡_, refl, sym, ap, subst}
+use mathlib.Core.Logic.{_↔_, _⊎_, inl, inr, Iff·trans}
+use mathlib.Core.List.{List}
+use Prim.Native.Nat.{ℕ, _+_, _*_, _^_, _≤_, _<_}
+use native.Mathlib.Omega.{arith}
+use lib.ListN.{getD}
+use Rattle.wire.specs.Reading.{readOf}
+use Rattle.runs.specs.Demand.{anyStarts}
+use Rattle.runs.specs.Allowed.{any-allowed}
+use Rattle.asking.specs.Rounds.{clocksOf, cycleOf, RunExists}
+use Rattle.rounds.specs.declared.Count.{Count}
+use Rattle.rounds.specs.declared.Count.the-variants as count
+use Rattle.rounds.specs.Answer as rounds
+use Rattle.plan.specs.Answer.{Rooms, momentsIn, startsIn}
+use Rattle.numbers.specs.Numbers.{countNumbers}
+use Rattle.promises.specs.Told.{IsTable, RoundsSays, PlanSays, NotRefused, AllowsRounds, GivesPlan, GivesLoop}
+use Rattle.promises.specs.Third.{Greatest, Earliest, Third}
+use Rattle.promises.specs.Plans.{count-allows, clocks-are, steps-are, plan-given, plan-parts, plan-or-loop}
+use Rattle.promises.specs.SecondHolds.{loop-none}
+
+count-small : (n : ℕ) (r : Count) → ((c : ℕ) → r ≡ count.Finite c → c < 2 ^ 24) → getD (countNumbers r) 2 0 < 2 ^ 32
+count-small n (count.Finite c) h = omega (arith, h c refl)
+count-small n count.Endless h = omega arith
+count-small n (count.Refused f) h = omega arith
+
+module _ (bytes : List ℕ) (n L g : ℕ) (t : IsTable bytes n L g) (c : List ℕ) (s : RoundsSays bytes c) where
+  counts : rounds.Counts (clocksOf bytes) (cycleOf bytes) (s .count)
+  counts = subst (λ q. rounds.Answers q bytes (s .count)) (t .accepted) (s .answers)
+
+  greatest : Greatest bytes c
+  greatest =
+      record {
+        exists = λ k.
+            subst (λ l. RunExists bytes k ↔ AllowsRounds l k) (sym (s .numbers)) (Iff·trans (counts .runs k) (count-allows (s .count) k));
+        small = subst (λ l. getD l 2 0 < 2 ^ 32) (sym (s .numbers)) (count-small n (s .count) (counts .small));
+      }
+
+  module _ (k : ℕ) (before after : Rooms) (a : List ℕ) (p : PlanSays bytes k before after a) where
+    given : NotRefused a → GivesPlan a (k * L + n + 1) ↔ AllowsRounds c k
+    given h = ((λ e. greatest .exists k .0 (there e)), λ m. go m (plan-or-loop bytes n L g t k before after a p h))
+      where
+        there : GivesPlan a (k * L + n + 1) → RunExists bytes k
+        there e =
+            let plan = plan-given bytes n L g t k before after a p (k * L + n + 1) e in
+            record {
+              parts = k * L + n + 1;
+              positive = omega arith;
+              moments = momentsIn (after .times);
+              starts = startsIn (after .starts);
+              allowed = plan .planned .allowed;
+              run = plan .planned .run;
+            }
+
+        go : AllowsRounds c k → GivesPlan a (k * L + n + 1) ⊎ GivesLoop bytes k after a → GivesPlan a (k * L + n + 1)
+        go m (inl e) = e
+        go m (inr l) = absurd (loop-none bytes n L g t k after a l (greatest .exists k .1 m))
+
+    earliest : Earliest bytes n L k after a c
+    earliest =
+        record {
+          earliest = λ e u r w i l.
+              plan-given bytes n L g t k before after a p (k * L + n + 1) e .planned .earliest u r w (any-allowed _ _ r) i
+              (omega (arith, steps-are bytes n L g t k));
+          smallest = λ e r w j l h.
+              plan-given bytes n L g t k before after a p (k * L + n + 1) e .planned .smallest r w (any-allowed _ _ r) j l
+              (omega (arith, clocks-are bytes n L g t));
+          given = given;
+        }
+
+-- The third promise.
+pub third-holds : Third
+third-holds =
+    record {
+      rounds = λ bytes n L g t c s. greatest bytes n L g t c s;
+      plan = λ bytes n L g t c s k before after a p. earliest bytes n L g t c s k before after a p;
+    }

@@ -1,0 +1,224 @@
+-- The invariant: m passes are made, each has raised something and left no cycle of parents, so m is below N.
+use borrow.Author.Needs.{needs}
+use native.Mathlib.Omega.{arith}
+use mathlib.Core.Path.{_≡_, refl, _∙_}
+use Prim.Native.Nat.{_-_}
+use lib.ListN.{length}
+use Rattle.paths.specs.State.{state}
+use borrow.Author.Tests.{not-true, not-false}
+use Rattle.constraints.specs.Sized.{sized-parts}
+use Rattle.relaxing.specs.Ending.{Passing, passing-none, passing-passable, passing-size, more-size, more-searchable}
+use Rattle.relaxing.specs.Ending.{ended-quiet, ended-cycle, passing-more, search-size}
+use Rattle.relaxing.proofs.passes.Statement.{statement}
+use Rattle.relaxing.proofs.passes.Tie as tie
+
+abbrev Inv-loop : tie.InvT-loop
+Inv-loop t k time₀ parent₀ stamp₀ marks₀ n q₀ m₀ time parent stamp marks q m =
+    Passing t k (state time₀ parent₀ stamp₀) m q (state time parent stamp) × (length marks ≡ length marks₀)
+
+abbrev μ-loop : tie.MeasureT-loop
+μ-loop t k time₀ parent₀ stamp₀ marks₀ n q₀ m₀ time parent stamp marks q m = n - m
+
+-- ---- places: where the passes began, the loop, the pass just made and the search after it
+abbrev entry : tie.At-loop Inv-loop μ-loop → tie.Start Inv-loop μ-loop
+entry c = c .before .before .before .before .before .before .before
+
+abbrev head : tie.After-pass Inv-loop μ-loop → tie.At-loop Inv-loop μ-loop
+head c = c .before .before .before .before .before
+
+abbrev swept : tie.After-struct-known3 Inv-loop μ-loop → tie.After-pass Inv-loop μ-loop
+swept c = c .before .before .before .before .before .before .before
+
+abbrev raised : tie.After-find-cycle Inv-loop μ-loop → tie.Else1 Inv-loop μ-loop
+raised c = c .before .before .before .before
+
+mul-n : tie.Need-mul-n Inv-loop μ-loop
+mul-n c = search needs
+
+add-n : tie.Need-add-n Inv-loop μ-loop
+add-n c = search needs
+
+add-n-2 : tie.Need-add-n-2 Inv-loop μ-loop
+add-n-2 c = search needs
+
+loop-holds : tie.Need-loop-holds Inv-loop μ-loop
+loop-holds c =
+    let s = c .before .before .before .before .before .before in
+    (passing-none _ _ _ (s .pre .sized) (s .pre .begins), refl)
+
+pass-requires : tie.Need-pass-requires Inv-loop μ-loop
+pass-requires c κs =
+    let s = entry (c .before .before .before .before) in
+    let l = c .before .before .before .before .loop in
+    passing-passable _ _ _ (s .pre .sized) (s .pre .begins) _ _ _ (l .inv .0)
+
+same-length : tie.Need-same-length Inv-loop μ-loop
+same-length c =
+    let p = swept (c .before) in
+    let s = entry (head p) in
+    let l = head p .loop in
+    more-size _ _ _ (s .pre .sized) (s .pre .begins) _ _ _ (l .inv .0) _ _ _ (p .pass .ensures) .time
+
+same-length-2 : tie.Need-same-length-2 Inv-loop μ-loop
+same-length-2 c =
+    let p = swept (c .before) in
+    let s = entry (head p) in
+    let l = head p .loop in
+    more-size _ _ _ (s .pre .sized) (s .pre .begins) _ _ _ (l .inv .0) _ _ _ (p .pass .ensures) .parent
+
+same-length-3 : tie.Need-same-length-3 Inv-loop μ-loop
+same-length-3 c =
+    let p = swept (c .before) in
+    let s = entry (head p) in
+    let l = head p .loop in
+    more-size _ _ _ (s .pre .sized) (s .pre .begins) _ _ _ (l .inv .0) _ _ _ (p .pass .ensures) .stamp
+
+same-length-4 : tie.Need-same-length-4 Inv-loop μ-loop
+same-length-4 c =
+    let p = swept (c .before) in head p .loop .inv .1
+
+returns : tie.Need-returns Inv-loop μ-loop
+returns c =
+    let p = swept (c .before) in
+    let s = entry (head p) in
+    let l = head p .loop in
+    ended-quiet _ _ _ (s .pre .sized) (s .pre .begins) _ _ _ (l .inv .0) _ _ _ (p .pass .ensures)
+    (not-true _ (c .if1 .taken))
+
+find-cycle-requires : tie.Need-find-cycle-requires Inv-loop μ-loop
+find-cycle-requires c κs =
+    let p = swept (c .before .before .before .before) in
+    let s = entry (head p) in
+    let l = head p .loop in
+    more-searchable _ _ _ (s .pre .sized) (s .pre .begins) _ _ _ (l .inv .0) _ _ _ (p .pass .ensures) _
+    (omega (arith, s .pre .room, l .inv .1))
+
+same-length-5 : tie.Need-same-length-5 Inv-loop μ-loop
+same-length-5 c =
+    let f = c .before .before .before in
+    let p = swept (raised f .before) in
+    let s = entry (head p) in
+    let l = head p .loop in
+    more-size _ _ _ (s .pre .sized) (s .pre .begins) _ _ _ (l .inv .0) _ _ _ (p .pass .ensures) .time
+
+same-length-6 : tie.Need-same-length-6 Inv-loop μ-loop
+same-length-6 c =
+    let f = c .before .before .before in
+    let p = swept (raised f .before) in
+    let s = entry (head p) in
+    let l = head p .loop in
+    more-size _ _ _ (s .pre .sized) (s .pre .begins) _ _ _ (l .inv .0) _ _ _ (p .pass .ensures) .parent
+
+same-length-7 : tie.Need-same-length-7 Inv-loop μ-loop
+same-length-7 c =
+    let f = c .before .before .before in
+    let p = swept (raised f .before) in
+    let s = entry (head p) in
+    let l = head p .loop in
+    more-size _ _ _ (s .pre .sized) (s .pre .begins) _ _ _ (l .inv .0) _ _ _ (p .pass .ensures) .stamp
+
+same-length-8 : tie.Need-same-length-8 Inv-loop μ-loop
+same-length-8 c =
+    let f = c .before .before .before in
+    let p = swept (raised f .before) in
+    let s = entry (head p) in
+    let l = head p .loop in
+    search-size _ _ _ _ _ _ (omega (arith, s .pre .room, l .inv .1)) (f .find-cycle .ensures) ∙ l .inv .1
+
+returns-2 : tie.Need-returns-2 Inv-loop μ-loop
+returns-2 c =
+    let f = c .before .before .before in
+    let p = swept (raised f .before) in
+    let s = entry (head p) in
+    let l = head p .loop in
+    ended-cycle _ _ _ (s .pre .sized) (s .pre .begins) _ _ _ (l .inv .0) _ _ _ (p .pass .ensures) _ _ _
+    (f .find-cycle .ensures) (c .if2 .taken)
+
+add-m : tie.Need-add-m Inv-loop μ-loop
+add-m c =
+    let f = c .before .before .before in
+    let p = swept (raised f .before) in
+    let s = entry (head p) in
+    let l = head p .loop in
+    let p = passing-more _ _ _ (s .pre .sized) (s .pre .begins) _ _ _ (l .inv .0) _ _ _ (p .pass .ensures) _ _ _
+    (f .find-cycle .ensures) (not-false _ (raised f .if1 .left)) (c .if2 .left) in
+    omega (arith, p .few, sized-parts _ _ (s .pre .sized))
+
+loop-less : tie.Need-loop-less Inv-loop μ-loop
+loop-less c =
+    let f = c .before .before .before in
+    let p = swept (raised f .before) in
+    let s = entry (head p) in
+    let l = head p .loop in
+    let p = passing-more _ _ _ (s .pre .sized) (s .pre .begins) _ _ _ (l .inv .0) _ _ _ (p .pass .ensures) _ _ _
+    (f .find-cycle .ensures) (not-false _ (raised f .if1 .left)) (c .if2 .left) in
+    omega (arith, p .few)
+
+loop-again : tie.Need-loop-again Inv-loop μ-loop
+loop-again c =
+    let f = c .before .before .before in
+    let p = swept (raised f .before) in
+    let s = entry (head p) in
+    let l = head p .loop in (
+      passing-more _ _ _ (s .pre .sized) (s .pre .begins) _ _ _ (l .inv .0) _ _ _ (p .pass .ensures) _ _ _
+          (f .find-cycle .ensures) (not-false _ (raised f .if1 .left)) (c .if2 .left),
+      search-size _ _ _ _ _ _
+          (omega (arith, s .pre .room, l .inv .1)) (f .find-cycle .ensures) ∙ l .inv .1,
+    )
+
+same-length-9 : tie.Need-same-length-9 Inv-loop μ-loop
+same-length-9 c =
+    let s = entry (c .before) in
+    let l = c .before .loop in
+    passing-size _ _ _ (s .pre .sized) (s .pre .begins) _ _ _ (l .inv .0) .time
+
+same-length-10 : tie.Need-same-length-10 Inv-loop μ-loop
+same-length-10 c =
+    let s = entry (c .before) in
+    let l = c .before .loop in
+    passing-size _ _ _ (s .pre .sized) (s .pre .begins) _ _ _ (l .inv .0) .parent
+
+same-length-11 : tie.Need-same-length-11 Inv-loop μ-loop
+same-length-11 c =
+    let s = entry (c .before) in
+    let l = c .before .loop in
+    passing-size _ _ _ (s .pre .sized) (s .pre .begins) _ _ _ (l .inv .0) .stamp
+
+same-length-12 : tie.Need-same-length-12 Inv-loop μ-loop
+same-length-12 c =
+    c .before .loop .inv .1
+
+returns-3 : tie.Need-returns-3 Inv-loop μ-loop
+returns-3 c =
+    absurd (omega (arith, c .before .loop .inv .0 .few, c .loop-test .left))
+
+pub passes-spec : {M : Type 1} → statement M
+passes-spec =
+    tie.close
+    (tie.spec
+    Inv-loop
+    μ-loop
+    mul-n
+    add-n
+    add-n-2
+    loop-holds
+    pass-requires
+    same-length
+    same-length-2
+    same-length-3
+    same-length-4
+    returns
+    find-cycle-requires
+    same-length-5
+    same-length-6
+    same-length-7
+    same-length-8
+    returns-2
+    add-m
+    loop-less
+    loop-again
+    same-length-9
+    same-length-10
+    same-length-11
+    same-length-12
+    returns-3)

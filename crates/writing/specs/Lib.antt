@@ -1,0 +1,5 @@
+pub mod Ready
+pub mod Tally
+pub mod Passed
+pub mod Ends
+pub mod Steps

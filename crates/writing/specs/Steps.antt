@@ -1,0 +1,157 @@
+-- The row from one demand or guard to the next, and from step to step.
+use mathlib.Core.Path.{_≡_, sym, _∙_, ap}
+use mathlib.Core.Bool.{false}
+use mathlib.Core.List.{List, [], _∷_, _++_, append-assoc}
+use Prim.Native.Nat.{ℕ, suc, _+_, _*_, _≤_, _<_}
+use native.Mathlib.Decide.{decLt}
+use native.Mathlib.Numerals.{add-one}
+use native.Mathlib.Omega.{arith}
+use lib.IntN.{ℤ}
+use lib.ListN.{length, getD, drop}
+use Rattle.table.specs.Step.{stepAt, stepsOf}
+use Rattle.table.specs.declared.Guard.{Guard}
+use Rattle.table.specs.declared.Table.{Table}
+use Rattle.runs.specs.Run.{copies, zeroed}
+use Rattle.runs.specs.declared.Demand.{Demand}
+use Rattle.runs.specs.Demand.{plus, guardDemands, stepsDemands}
+use Rattle.runs.specs.DemandOrder.{stepsDemands-cons, stepsDemands-same}
+use Rattle.constraints.specs.Pieces.{resetOf, followingOf, following-round, following-on}
+use Rattle.constraints.specs.Demands.{demandsOf, guardsFrom}
+use Rattle.constraints.specs.Guards.{guards-more, guards-end}
+use Rattle.constraints.specs.Resets.{length-reset, reset-same}
+use Rattle.table.specs.Steps.{guard-fair}
+use Rattle.constraints.specs.Rounds.{rounds-drop}
+use Rattle.writing.specs.Ready.{Ready}
+use Rattle.cells.specs.Writing.{Fits, Wrote, Left, fits-front, left-next, left-as}
+use Rattle.writing.specs.Passed.{startsDue, stepsDue, guardsDue, laterDue, Passed, Inside}
+use Rattle.writing.specs.Ends.{rounds-fair}
+
+module _ {t : Table} {k : ℕ} (ready : Ready t k) where
+  module _ {old row : List ℤ} {q i s : ℕ} {z : List ℕ} (p : Passed t k old row q i s z) where
+    -- ---- a step begins: its order demand, its guards, and what comes after it
+    module _ (l : i < k * t .steps) where
+      orders : List Demand
+      orders = plus (i + 1) i 0 false ∷ []
+
+      one-step : stepsDue t k i z ++ startsDue t k
+          ≡ orders ++ (guardsDue t s i z (getD (t .ends) s 0) ++ laterDue t k s i z)
+      unfolding orders guardsFrom stepAt
+      one-step =
+          let y : ℕ → ℕ = λ j. getD z j 0 in
+          ap (λ τ. stepsDemands τ i y ++ startsDue t k) (rounds-drop t k (p .round) s i (p .step) (p .steps) l)
+          ∙ ap (λ ds. ds ++ startsDue t k) (stepsDemands-cons (stepAt t s) (drop (suc i) (copies (stepsOf t) k)) i y)
+          ∙ rw (← add-one i)
+          (append-assoc (orders ++ guardsDue t s i z (getD (t .ends) s 0)) _ (startsDue t k)
+          ∙ ap (λ ds. (orders ++ guardsDue t s i z (getD (t .ends) s 0)) ++ (ds ++ startsDue t k))
+          (stepsDemands-same (drop (i + 1) (copies (stepsOf t) k)) (i + 1) (zeroed (stepAt t s) (i + 1) y)
+          (λ j. getD (resetOf (t .resets) s (i + 1) z) j 0) (rounds-fair ready (i + 1)) (reset-same t s (i + 1) z (p .resets))))
+
+      order-left : Left old 0 (demandsOf t k) row q
+          (orders ++ (guardsDue t s i z (getD (t .ends) s 0) ++ laterDue t k s i z))
+      order-left = left-as one-step (p .left)
+
+      pub order-fits : Fits row q (plus (i + 1) i 0 false ∷ [])
+      unfolding orders
+      order-fits = fits-front orders _ (order-left .fits)
+
+      pub passed-order : {row′ : List ℤ} {q′ g : ℕ} → g ≡ getD (t .ends) s 0
+          → Wrote row q (plus (i + 1) i 0 false ∷ []) row′ q′ → Inside t k old row′ q′ i s g z
+      unfolding orders
+      passed-order {row′} {q′} {g} e w =
+          record {
+            round = p .round;
+            step = p .step;
+            steps = p .steps;
+            few = l;
+            resets = p .resets;
+            first = omega arith;
+            last = omega (arith, ready .sound .good .order s (p .step));
+            left =
+                left-as (ap (λ n. guardsDue t s i z n ++ laterDue t k s i z) (sym e)) (left-next orders _ order-left w);
+          }
+
+  module _ {old row : List ℤ} {q i s g : ℕ} {z : List ℕ} (p : Inside t k old row q i s g z) where
+    -- ---- it is at a step and at a guard of the table
+    pub inside-step : s < 16
+    inside-step = omega (arith, p .step, ready .sound .good .steps-few)
+
+    pub inside-moment : i < 1024
+    inside-moment = omega (arith, p .few, ready .few)
+
+    pub inside-guard : g < getD (t .ends) (s + 1) 0 → g < 64
+    inside-guard l = omega (arith, ready .sound .good .room (s + 1) (omega (arith, p .step)))
+
+    -- ---- a guard more
+    module _ (d : Guard) (l : g < getD (t .ends) (s + 1) 0) where
+      pub guard-clock : getD (t .guards) g d .clock < 7
+      guard-clock = guard-fair t s g d (ready .sound .good) (p .step) (p .first) l .last
+
+      abbrev here : List Demand
+      here =
+          guardDemands (getD (t .guards) g d .relation) (getD (t .guards) g d .constant)
+          (getD z (getD (t .guards) g d .clock) 0) (i + 1)
+
+      guard-left : Left old 0 (demandsOf t k) row q (here ++ (guardsDue t s i z (g + 1) ++ laterDue t k s i z))
+      guard-left =
+          let room = ready .sound .good .room (s + 1) (omega (arith, p .step)) in
+          left-as
+          (ap (λ ds. ds ++ laterDue t k s i z)
+          (guards-more t s (i + 1) z g d l (omega (arith, room, ready .sound .good .guards-size)))
+          ∙ append-assoc here (guardsDue t s i z (g + 1)) (laterDue t k s i z))
+          (p .left)
+
+      pub guard-fits : Fits row q here
+      guard-fits = fits-front here _ (guard-left .fits)
+
+      pub passed-guard : {row′ : List ℤ} {q′ : ℕ} → Wrote row q here row′ q′ → Inside t k old row′ q′ i s (g + 1) z
+      passed-guard w =
+          record {
+            round = p .round;
+            step = p .step;
+            steps = p .steps;
+            few = p .few;
+            resets = p .resets;
+            first = omega (arith, p .first);
+            last = omega arith;
+            left = left-next here _ guard-left w;
+          }
+
+    -- ---- the step is past
+    pub passed-step : {s′ : ℕ} {z′ : List ℕ} → getD (t .ends) (s + 1) 0 ≤ g
+        → z′ ≡ resetOf (t .resets) s (i + 1) z → s′ ≡ followingOf s (t .steps) → Passed t k old row q (i + 1) s′ z′
+    passed-step {s′} {z′} b e f = go (decLt (s + 1) (t .steps))
+      where
+        size : length z′ ≡ 7
+        size = ap length e ∙ length-reset (t .resets) s (i + 1) z 7 ∙ p .resets
+
+        left : Left old 0 (demandsOf t k) row q (stepsDue t k (i + 1) z′ ++ startsDue t k)
+        left =
+            let n : g ≡ getD (t .ends) (s + 1) 0 = omega (arith, p .last) in
+            left-as
+            (ap (λ m. guardsDue t s i z m ++ laterDue t k s i z) n
+            ∙ ap (λ ds. ds ++ laterDue t k s i z) (guards-end t s (i + 1) z)
+            ∙ ap (λ y. stepsDue t k (i + 1) y ++ startsDue t k) (sym e))
+            (p .left)
+
+        go : Dec (s + 1 < t .steps) → Passed t k old row q (i + 1) s′ z′
+        go (yes a) =
+            let n : s′ ≡ s + 1 = f ∙ following-on s (t .steps) (omega arith) in
+            record {
+              round = p .round;
+              step = omega arith;
+              steps = omega (arith, p .steps);
+              few = omega (arith, p .few);
+              resets = size;
+              left = left;
+            }
+        go (no a) =
+            let m : s + 1 ≡ t .steps = omega (arith, p .step) in
+            let n : s′ ≡ 0 = f ∙ following-round s (t .steps) m in
+            record {
+              round = p .round + 1;
+              step = omega (arith, p .step);
+              steps = omega (arith, p .steps);
+              few = omega (arith, p .few);
+              resets = size;
+              left = left;
+            }
