@@ -2,7 +2,7 @@
 use mathlib.Core.Path.{_≡_, refl, sym, ap, subst, _∙_}
 use mathlib.Core.Bool.{Bool, true, false, cond}
 use mathlib.Core.List.{List}
-use Prim.Native.Nat.{ℕ, _+_, _*_, _/_, _≤_, _<_}
+use Prim.Native.Nat.{ℕ, _+_, _*_, _/_, _≤_}
 use native.Mathlib.Omega.{arith}
 use native.Mathlib.Decide.{decLe}
 use lib.Dec.{leb}
@@ -36,8 +36,7 @@ use Rattle.demands.specs.declared.Listed.{Listed}
 use Rattle.demands.specs.declared.Listed.the-variants as listed
 use Rattle.demands.specs.Listed.{need, answerOf, listedOf, unlessRefused, rowRoom, rowOf}
 use Rattle.cells.specs.Lines.{cells, over}
-use Rattle.numbers.specs.Numbers.{four, refusedNumbers, readNumbers, countNumbers, planNumbers, demandsNumbers}
-use Rattle.promises.specs.Told.{ReadSays, RoundsSays, PlanSays, DemandsSays, NotRefused}
+use Rattle.numbers.specs.Numbers.{four, readNumbers, countNumbers, planNumbers, demandsNumbers}
 use Rattle.promises.specs.First.{row, planRow, demandsRow, Refuses, AcceptedBy, RefusedBy, First}
 use Rattle.promises.specs.Rows.{number-some, Told, fails, passes, told-test, refuses-fault, refuses-none}
 use Rattle.promises.specs.Reader.{reader-number}

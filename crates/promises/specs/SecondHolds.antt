@@ -1,6 +1,6 @@
 -- The second promise holds.
 use mathlib.Core.List.{List}
-use Prim.Native.Nat.{ℕ, _+_, _*_}
+use Prim.Native.Nat.{ℕ}
 use native.Mathlib.Omega.{arith}
 use lib.ListN.{getD, take}
 use Rattle.runs.specs.Demand.{anyStarts}

@@ -1,12 +1,10 @@
 -- The third promise holds.
-use mathlib.Core.Path.{_≡_, refl, sym, ap, subst}
+use mathlib.Core.Path.{_≡_, refl, sym, subst}
 use mathlib.Core.Logic.{_↔_, _⊎_, inl, inr, Iff·trans}
 use mathlib.Core.List.{List}
-use Prim.Native.Nat.{ℕ, _+_, _*_, _^_, _≤_, _<_}
+use Prim.Native.Nat.{ℕ, _+_, _*_, _^_, _<_}
 use native.Mathlib.Omega.{arith}
 use lib.ListN.{getD}
-use Rattle.wire.specs.Reading.{readOf}
-use Rattle.runs.specs.Demand.{anyStarts}
 use Rattle.runs.specs.Allowed.{any-allowed}
 use Rattle.asking.specs.Rounds.{clocksOf, cycleOf, RunExists}
 use Rattle.rounds.specs.declared.Count.{Count}
@@ -16,7 +14,7 @@ use Rattle.plan.specs.Answer.{Rooms, momentsIn, startsIn}
 use Rattle.numbers.specs.Numbers.{countNumbers}
 use Rattle.promises.specs.Told.{IsTable, RoundsSays, PlanSays, NotRefused, AllowsRounds, GivesPlan, GivesLoop}
 use Rattle.promises.specs.Third.{Greatest, Earliest, Third}
-use Rattle.promises.specs.Plans.{count-allows, clocks-are, steps-are, plan-given, plan-parts, plan-or-loop}
+use Rattle.promises.specs.Plans.{count-allows, clocks-are, steps-are, plan-given, plan-or-loop}
 use Rattle.promises.specs.SecondHolds.{loop-none}
 
 count-small : (n : ℕ) (r : Count) → ((c : ℕ) → r ≡ count.Finite c → c < 2 ^ 24) → getD (countNumbers r) 2 0 < 2 ^ 32

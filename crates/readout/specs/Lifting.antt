@@ -1,6 +1,6 @@
 -- The smallest starts, from place to place.
 use mathlib.Core.Path.{_≡_, refl, sym, ap, subst, _∙_}
-use mathlib.Core.Bool.{Bool, true}
+use mathlib.Core.Bool.{true}
 use mathlib.Core.List.{List, [], _++_, List·Memᴰ, map-append}
 use Prim.Native.Nat.{ℕ, _+_, _*_, _≤_, _<_}
 use native.Mathlib.Omega.{arith}
@@ -9,7 +9,6 @@ use lib.ListN.{length, getD}
 use Rattle.table.specs.declared.Guard.{Guard}
 use Rattle.table.specs.declared.Table.{Table}
 use Rattle.runs.specs.declared.Demand.{Demand}
-use Rattle.runs.specs.DemandRange.{Proper}
 use Rattle.runs.specs.Tools.{Every, every-append, every-map}
 use Rattle.constraints.specs.declared.Cursor.{Cursor}
 use Rattle.constraints.specs.Pieces.{fresh, guardDemand}

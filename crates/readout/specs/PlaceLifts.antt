@@ -1,12 +1,12 @@
 -- What the demands at a place ask of the starts: the order demand of a step nothing, a guard what its last demand asks.
 use mathlib.Core.Path.{_≡_, refl, sym, ap, subst, _∙_}
 use mathlib.Core.Bool.{Bool, true, false}
-use mathlib.Core.List.{List, [], _∷_}
+use mathlib.Core.List.{List}
 use Prim.Native.Nat.{ℕ, _+_, _≤_, _<_}
 use native.Mathlib.Omega.{arith}
 use Rattle.table.specs.declared.Guard.{Guard}
 use Rattle.runs.specs.declared.Demand.{Demand}
-use Rattle.runs.specs.Demand.{plus, guardDemands}
+use Rattle.runs.specs.Demand.{plus}
 use Rattle.constraints.specs.declared.Cursor.{Cursor}
 use Rattle.constraints.specs.Pieces.{guardDemand}
 use Rattle.constraints.specs.Onward.{asked}

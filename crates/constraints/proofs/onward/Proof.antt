@@ -6,9 +6,7 @@ use mathlib.Core.Bool.{Bool, true, false}
 use mathlib.Core.List.{List}
 use Prim.Native.Nat.{ℕ, _+_, _≤_, _<_, _^_}
 use native.Mathlib.Omega.{arith}
-use lib.ListN.{getD}
 use Rattle.constraints.specs.declared.Cursor.{Cursor}
-use Rattle.constraints.specs.Pieces.{followingOf, resetOf}
 use Rattle.constraints.specs.Onward.{guardLeft, stepTo, resetsTo, afterOf, resetsAfter}
 use Rattle.constraints.proofs.onward.Statement.{statement}
 use Rattle.constraints.proofs.onward.Tie as tie

@@ -1,7 +1,6 @@
 -- One case of what is asked for each way out.
 use borrow.Author.Needs.{needs}
 use borrow.Author.Tests.{not-true, not-false, lt-ltb, le-ltb}
-use native.Mathlib.Omega.{arith}
 use Rattle.readout.specs.PlaceLifts.{liftable-as, order-lifts, none-lifts, guard-lifted}
 use Rattle.readout.proofs.lift_place.Statement.{statement}
 use Rattle.readout.proofs.lift_place.Tie as tie

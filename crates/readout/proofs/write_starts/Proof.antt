@@ -1,7 +1,6 @@
 -- The invariant: what is left from the place raises the starts to the smallest ones.
 use borrow.Author.Needs.{needs}
 use mathlib.Core.Path.{_∙_}
-use Prim.Native.Nat.{_<_}
 use native.Mathlib.Omega.{arith}
 use Rattle.constraints.specs.Going.{workOf, place-standing, work-on}
 use Rattle.readout.specs.Lift.{filled-startable, filled-zero, filled-size, filled-written}
@@ -30,9 +29,6 @@ test c = c .before .before .before .before .before
 
 abbrev lifted : tie.After-onward Inv-loop μ-loop → tie.After-lift-place Inv-loop μ-loop
 lifted c = c .before .before .before .before .before .before
-
-low : (c : tie.At-loop Inv-loop μ-loop) → c .loop .here .step < 16
-low c = omega (arith, c .loop .inv .place .step, entry c .pre .sized .good .steps-few)
 
 mul-total : tie.Need-mul-total Inv-loop μ-loop
 mul-total c = search needs

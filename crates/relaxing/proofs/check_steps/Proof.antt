@@ -1,6 +1,5 @@
 -- The invariant: what the checks gave up to the place, and what is left from there.
 use borrow.Author.Needs.{needs}
-use Prim.Native.Nat.{_<_}
 use native.Mathlib.Omega.{arith}
 use Rattle.paths.specs.State.{state}
 use Rattle.constraints.specs.Going.{workOf, place-standing, work-on}
@@ -29,9 +28,6 @@ test c = c .before .before .before .before .before .before .before
 
 abbrev checked : tie.After-onward Inv-loop μ-loop → tie.After-check-place Inv-loop μ-loop
 checked c = c .before .before .before .before .before .before .before .before .before .before
-
-low : (c : tie.At-loop Inv-loop μ-loop) → c .loop .here .step < 16
-low c = omega (arith, c .loop .inv .place .step, entry c .pre .0 .good .steps-few)
 
 mul-total : tie.Need-mul-total Inv-loop μ-loop
 mul-total c = search needs
