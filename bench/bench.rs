@@ -125,7 +125,7 @@ fn filled(mut steps: Vec<Vec<u8>>, used: u8) -> Vec<u8> {
     table(6, &steps)
 }
 
-/// The slowest for the library that a search over tables found, reduced to what matters. Rounds last exactly 11, and less from
+/// A table that was slow for passes that only go forth. Rounds last exactly 11, and less from
 /// one second step to the next, so that the second steps come late at first and each a part sooner than the one before: a way
 /// back from the last round to the first.
 fn drifting() -> Vec<u8> {
@@ -149,6 +149,29 @@ fn zigzag(end: Option<u16>) -> Vec<u8> {
     };
     let steps = [half(2, 3), half(3, 2)].concat();
     filled(steps, 4)
+}
+
+/// Four steps are within 3,999 ticks of each other, round by round, and the fifth comes 4,000 after the fifth of the round before: a
+/// chain of steps back from each fifth step, that fits exactly.
+fn descending() -> Vec<u8> {
+    let mut steps: Vec<_> = [3984, 5, 5, 5]
+        .map(|most| [guard(1, AT_MOST, most), reset(1)].concat())
+        .into();
+    steps.push([guard(2, AT_LEAST, 4000), reset(2)].concat());
+    filled(steps, 2)
+}
+
+/// The slowest that bench/search.rs found, reduced to what matters. The third steps are 3,994 ticks after the fourth before them and
+/// soon after the second, and the first steps are soon after the fourth and late after the second before them: each pass forth and back
+/// moves one half round.
+fn staircase() -> Vec<u8> {
+    let steps = vec![
+        [guard(2, AT_MOST, 3), guard(1, AT_LEAST, 102), reset(1)].concat(),
+        reset(1),
+        [guard(2, EXACTLY, 3994), guard(1, AT_MOST, 6), reset(2)].concat(),
+        reset(2),
+    ];
+    filled(steps, 2)
 }
 
 // Timing.
@@ -351,6 +374,8 @@ fn main() {
         &zigzag(Some(1000)),
         170,
     );
+    bench_plan("5 steps, 64 guards, for 204: descending", &descending(), 204);
+    bench_plan("4 steps, 64 guards, for 256: staircase", &staircase(), 256);
     bench_demands("S10 for 2", S10, 2);
     bench_demands("the largest row", &crowded(EXACTLY, 3), 1024);
 }

@@ -1,4 +1,4 @@
-/* The four entries, called as judge.h declares them: compare.rs and bench.rs link this file and call the library through it. */
+/* The four entries, called as judge.h declares them: compare.rs, trials.rs and bench.rs link this file and call the library through it. */
 #include "judge.h"
 
 bool through_read(const uint8_t *table, size_t table_len, uint64_t *answer, size_t answer_len)

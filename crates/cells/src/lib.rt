@@ -56,12 +56,13 @@ pub fn put_guard(row: &mut [i64], q: usize, guard: Guard, z: usize, i: usize) ->
     ensures { λ r. ⌜ Wrote (now (row .entry)) q (guardDemands (guard .relation) (guard .constant) z i) (now (row .exit)) r ⌝ }
 {
     let relation = guard.relation;
-    let first = constraints::guard_demand(relation, guard.constant, z, i, false);
+    let constant = guard.constant as u64;
+    let first = constraints::guard_demand(relation, constant, z, i, false);
     let p = put(row, q, first);
     if !constraints::twice(relation) {
         return p;
     }
-    let second = constraints::guard_demand(relation, guard.constant, z, i, true);
+    let second = constraints::guard_demand(relation, constant, z, i, true);
     put(row, p, second)
 }
 

@@ -13,7 +13,10 @@ use Rattle.paths.specs.State.{State, passOf, hitsOf, pass-none, hits-none, pass
 use Rattle.paths.specs.Bounds.{SameSize, Room, room-kept, pass-size, Under, Gains, pass-under, Relaxable, relaxable}
 use Rattle.paths.specs.Code.{Check}
 use Rattle.checks.specs.InParts.{inParts, allInParts}
-use Rattle.checks.specs.Weights.{unit}
+
+-- no gain and no loss is above 2^22
+abbrev pub unit : ℕ
+unit = 4194304
 
 -- A demand whose moments are below P, and whose bounds in parts are small.
 pub record Slight (P : ℕ) (d : Demand) : Type 0 where

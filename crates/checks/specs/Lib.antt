@@ -1,7 +1,8 @@
 -- demands as difference constraints in parts
 pub mod InParts
-pub mod Weights
 -- checks of demands, list by list
 pub mod Checks
-pub mod GuardChecks
-pub mod PlaceChecks
+pub mod Turns
+-- of a key, and of one side of a step
+pub mod KeyChecks
+pub mod SideChecks

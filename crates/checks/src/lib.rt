@@ -1,21 +1,21 @@
-// Checks of demands as difference constraints in parts, over lent times.
-use constraints::Cursor;
+// Checks of demands as difference constraints in parts, over lent times: of one demand, of a key, and of one side of a step.
 use constraints::bit_of;
-use constraints::guard_demand;
-use constraints::not_after;
-use constraints::twice;
+use last_resets::last_reset;
 use paths::relax;
 use runs::Demand;
-use table::Guard;
+use sides::NONE;
+use sweeps::lower_demand;
+use sweeps::upper_demand;
 ghost use mathlib.Core.Path.{_≡_};
 ghost use mathlib.Core.Bool.{_||_};
 ghost use mathlib.Core.List.{[], _∷_};
-ghost use Prim.Native.Nat.{_≤_};
-ghost use lib.Dec.{ltb};
-ghost use Rattle.runs.specs.Demand.{guardDemands};
-ghost use Rattle.constraints.specs.Onward.{asked};
+ghost use Prim.Native.Nat.{_+_, _≤_};
+ghost use Rattle.sides.specs.Tight.{keyDemand, keyDemands};
+ghost use Rattle.last_resets.specs.Distance.{lastOf};
+ghost use Rattle.sweeps.specs.Order.{sideOf};
 ghost use Rattle.paths.specs.State.{state};
 ghost use Rattle.checks.specs.Checks.{Checkable, Checked};
+ghost use Rattle.checks.specs.SideChecks.{Placed};
 
 // What checks give: whether one has raised a time, and the stamp of the next check.
 pub struct Sweep {
@@ -53,58 +53,92 @@ pub fn check(
     }
 }
 
-// The one or two checks of a guard at moment i, when its clock was last reset at moment z.
-pub fn check_guard(
-    parts: u64,
-    g: Guard,
-    z: usize,
-    i: usize,
-    time: &mut [u64],
-    parent: &mut [u64],
-    stamp: &mut [u64],
-    w: Sweep,
-) -> Sweep
-    requires { ⌜ Checkable parts (guardDemands (g .relation) (g .constant) z i)
-        (state (now time) (now parent) (now stamp)) (w .stamp) ⌝ }
-    ensures { λ r. ⌜ Checked parts (guardDemands (g .relation) (g .constant) z i) (w .raised) (w .stamp)
-        (state (now (time .entry)) (now (parent .entry)) (now (stamp .entry)))
-        (state (now (time .exit)) (now (parent .exit)) (now (stamp .exit))) (r .raised) (r .stamp) ⌝ }
+// The demand of a key on a side, at moment i on a clock last reset at moment z.
+fn key_demand(upper: bool, key: u64, z: usize, i: usize) -> Demand
+    ensures { λ r. ⌜ r ≡ keyDemand upper key z i ⌝ }
 {
-    let relation = g.relation;
-    let first = guard_demand(relation, g.constant, z, i, false);
-    let once = check(parts, first, time, parent, stamp, w);
-    if !twice(relation) {
-        return once;
+    if upper {
+        return upper_demand(key, z, i);
     }
-    let second = guard_demand(relation, g.constant, z, i, true);
-    check(parts, second, time, parent, stamp, once)
+    lower_demand(key, z, i)
 }
 
-// The checks at a place: of the order demand of its step, or, if a guard is left before `end`, of the guard g, when its clock was last
-// reset at moment z.
-pub fn check_place(
+// The check of the demand of clock j's key at step i of `total`, if it has one.
+fn check_key(
+    upper: bool,
+    key: u64,
+    distance: usize,
+    total: usize,
+    i: usize,
+    j: usize,
     parts: u64,
-    here: Cursor,
-    end: usize,
-    g: Guard,
-    z: usize,
     time: &mut [u64],
     parent: &mut [u64],
     stamp: &mut [u64],
     w: Sweep,
 ) -> Sweep
-    requires { ⌜ (here .past ≤ 1024) × Checkable parts (asked (here .begun) (ltb (here .guard) end) (here .past) g z)
-        (state (now time) (now parent) (now stamp)) (w .stamp) ⌝ }
-    ensures { λ r. ⌜ Checked parts (asked (here .begun) (ltb (here .guard) end) (here .past) g z) (w .raised) (w .stamp)
+    requires { ⌜ (total ≤ 1024) × (i ≤ 1024) × (j ≤ 6)
+        × Checkable parts (keyDemands upper key (lastOf distance total i j) (i + 1)) (state (now time) (now parent) (now stamp))
+        (w .stamp) ⌝ }
+    ensures { λ r. ⌜ Checked parts (keyDemands upper key (lastOf distance total i j) (i + 1)) (w .raised) (w .stamp)
         (state (now (time .entry)) (now (parent .entry)) (now (stamp .entry)))
         (state (now (time .exit)) (now (parent .exit)) (now (stamp .exit))) (r .raised) (r .stamp) ⌝ }
 {
-    let moment = here.past + 1;
-    if !here.begun {
-        return check(parts, not_after(moment, here.past), time, parent, stamp, w);
+    if NONE <= key {
+        return w;
     }
-    if here.guard < end {
-        return check_guard(parts, g, z, moment, time, parent, stamp, w);
+    let z = last_reset(distance, total, i, j);
+    check(
+        parts,
+        key_demand(upper, key, z, i + 1),
+        time,
+        parent,
+        stamp,
+        w,
+    )
+}
+
+// The checks of one side of step i of `total`, which is step s of its round, clock by clock.
+pub fn check_side(
+    upper: bool,
+    keys: &[u64],
+    far: &[usize],
+    clocks: usize,
+    total: usize,
+    s: usize,
+    i: usize,
+    parts: u64,
+    time: &mut [u64],
+    parent: &mut [u64],
+    stamp: &mut [u64],
+    w: Sweep,
+) -> Sweep
+    requires { ⌜ Placed (now keys) (now far) clocks total s i
+        × Checkable parts (sideOf upper (now keys) (now far) total s i 1 clocks) (state (now time) (now parent) (now stamp))
+        (w .stamp) ⌝ }
+    ensures { λ r. ⌜ Checked parts (sideOf upper (now (keys .entry)) (now (far .entry)) total s i 1 clocks)
+        (w .raised) (w .stamp)
+        (state (now (time .entry)) (now (parent .entry)) (now (stamp .entry)))
+        (state (now (time .exit)) (now (parent .exit)) (now (stamp .exit))) (r .raised) (r .stamp) ⌝ }
+{
+    let mut swept = w;
+    let mut j: usize = 1;
+    while j <= clocks {
+        let at = 7 * s + j;
+        swept = check_key(
+            upper,
+            keys[at],
+            far[at],
+            total,
+            i,
+            j,
+            parts,
+            time,
+            parent,
+            stamp,
+            swept,
+        );
+        j += 1;
     }
-    w
+    swept
 }

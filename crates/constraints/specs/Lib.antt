@@ -1,5 +1,4 @@
 pub mod Pieces
-pub mod Onward
 pub mod Rounds
 pub mod Demands
 pub mod Guards
@@ -7,5 +6,3 @@ pub mod Resets
 pub mod Count
 pub mod Number
 pub mod Sized
-pub mod StepPlaces
-pub mod Going

@@ -8,7 +8,6 @@ ghost use lib.ListN.{length};
 ghost use Rattle.runs.specs.Demand.{plus};
 ghost use Rattle.runs.specs.Parts.{bit};
 ghost use Rattle.constraints.specs.Pieces.{fresh, resetOf, followingOf, guardDemand, twiceOf};
-ghost use Rattle.constraints.specs.Onward.{Standing, afterOf, resetsAfter};
 
 // The last resets before the first of `total` steps: that of clock j is moment total + j. Place 0 is not used.
 pub fn fresh(total: usize) -> [usize; 7]
@@ -102,53 +101,6 @@ pub fn following(s: usize, steps: usize) -> usize
     ensures { λ r. ⌜ r ≡ followingOf s steps ⌝ }
 {
     if s + 1 == steps { 0 } else { s + 1 }
-}
-
-// A place in the demands of the steps: so many steps are past, and the next is step `step` of its round. It has begun, that is,
-// its order demand is past, and its guards from place `guard` of the table are left; or all its demands are left.
-pub struct Cursor {
-    pub past: usize,
-    pub step: usize,
-    pub guard: usize,
-    pub begun: bool,
-}
-
-// The place after a place. Where that is the next step, the clocks that the step resets are reset.
-pub fn onward(
-    ends: &[usize; 18],
-    flags: &[bool; 119],
-    steps: usize,
-    here: Cursor,
-    resets: &mut [usize],
-) -> Cursor
-    requires { ⌜ Standing (now ends) (now flags) here (now resets) ⌝ }
-    ensures { λ r. ⌜ (r ≡ afterOf (now (ends .entry)) steps here)
-        × (now (resets .exit) ≡ resetsAfter (now (ends .entry)) (now (flags .entry)) here (now (resets .entry))) ⌝ }
-{
-    let s = here.step;
-    if !here.begun {
-        return Cursor {
-            past: here.past,
-            step: s,
-            guard: ends[s],
-            begun: true,
-        };
-    }
-    if here.guard < ends[s + 1] {
-        return Cursor {
-            past: here.past,
-            step: s,
-            guard: here.guard + 1,
-            begun: true,
-        };
-    }
-    reset_clocks(flags, s, here.past + 1, resets);
-    Cursor {
-        past: here.past + 1,
-        step: following(s, steps),
-        guard: here.guard,
-        begun: false,
-    }
 }
 
 // Whether a guard has two demands.

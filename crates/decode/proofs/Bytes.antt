@@ -10,9 +10,11 @@ use Rattle.table.specs.declared.Guard.{Guard}
 use Rattle.table.specs.declared.Table.{Table}
 use Rattle.wire.specs.Records.{recordAt}
 use Rattle.wire.specs.Reading.{byte}
-use Rattle.wire.specs.Listing.{relationOf, guardIn}
+use Rattle.records.specs.Rules.{relationOf}
+use Rattle.wire.specs.Listing.{guardIn}
 use Rattle.wire.specs.Laws.{byte-is}
-use Rattle.decode.specs.Fill.{putHead, putGuard, putReset, putStep, put}
+use Rattle.filling.specs.Filling.{putHead, putGuard, putReset, putStep}
+use Rattle.decode.specs.Fill.{put}
 
 -- a guard, by its bytes
 pub guard-in : (bytes : List ℕ) (at clock relation low high : ℕ) → clock ≡ getD bytes (at + 1) 0 → relation ≡ getD bytes (at + 2) 0

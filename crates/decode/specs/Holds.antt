@@ -14,7 +14,7 @@ use Rattle.table.specs.declared.Table.{Table}
 use Rattle.table.specs.Step.{stepAt, stepsFrom}
 use Rattle.wire.specs.Listing.{Entry, guard, reset, guardsOf, flagged, stepOf}
 use Rattle.format.specs.Encode.{guardCount}
-use Rattle.decode.specs.Fill.{guardsSoFar, putGuard, putReset, putStep}
+use Rattle.filling.specs.Filling.{guardsSoFar, putGuard, putReset, putStep}
 use Rattle.decode.specs.Slices.{slice-set-after, slice-set-within, slice-set-at, slice-clear}
 use Rattle.decode.specs.Entries.{guards-append, guards-length, flagged-append, count-append}
 

@@ -6,9 +6,11 @@ use lib.ListN.{length, getD, drop}
 use Rattle.table.specs.declared.Refusal.{Refusal}
 use Rattle.table.specs.declared.Read.the-variants as read
 use Rattle.table.specs.declared.Table.{Table}
-use Rattle.wire.specs.Records.{bodySize, recordAt, recordsAt, records-none, records-next}
+use Rattle.records.specs.Rules.{bodySize}
+use Rattle.wire.specs.Records.{recordAt, recordsAt, records-none, records-next}
 use Rattle.wire.specs.Reading.{readOf}
-use Rattle.decode.specs.Fill.{empty, put, filled, tableOf}
+use Rattle.filling.specs.Filling.{empty}
+use Rattle.decode.specs.Fill.{put, filled, tableOf}
 
 -- a table by value, one record further
 pub filled-on : (bytes : List ℕ) (t u : Table) (at kind size : ℕ) → at < length bytes → kind ≡ getD bytes at 0 → size ≡ bodySize kind

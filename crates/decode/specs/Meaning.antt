@@ -6,7 +6,8 @@ use Rattle.table.specs.declared.Read.the-variants as read
 use Rattle.wire.specs.Records.{Bytes, records}
 use Rattle.wire.specs.Reading.{readOf}
 use Rattle.wire.specs.Listing.{listing}
-use Rattle.decode.specs.Fill.{empty, filled, tableOf}
+use Rattle.filling.specs.Filling.{empty}
+use Rattle.decode.specs.Fill.{filled, tableOf}
 use Rattle.decode.specs.Laws.{table-counted}
 use Rattle.format.specs.Encode.{encode}
 use Rattle.format.specs.Accepted.{Written, accepted-written}

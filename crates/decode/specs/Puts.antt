@@ -7,10 +7,12 @@ use lib.ListN.{length, length-append}
 use Rattle.table.specs.declared.Guard.{Guard}
 use Rattle.table.specs.declared.Table.{Table}
 use Rattle.wire.specs.Records.{recordsFrom, records}
-use Rattle.wire.specs.Listing.{Entry, guard, reset, Listing, relationOf}
+use Rattle.records.specs.Rules.{relationOf}
+use Rattle.wire.specs.Listing.{Entry, guard, reset, Listing}
 use Rattle.format.specs.Encode.{relationCode, entryBytes, stepBytes, stepsBytes, encode}
 use Rattle.format.specs.Shapes.{relation-back, constant-back}
-use Rattle.decode.specs.Fill.{empty, putHead, putGuard, putReset, putStep, put, filled}
+use Rattle.filling.specs.Filling.{empty, putHead, putGuard, putReset, putStep}
+use Rattle.decode.specs.Fill.{put, filled}
 
 -- an entry of the step that is under way
 abbrev pub putEntry : Entry → Table → Table

@@ -11,7 +11,8 @@ use Rattle.table.specs.Step.{stepAt, stepsFrom, stepsOf, Fairs, Good}
 use Rattle.wire.specs.Records.{records}
 use Rattle.wire.specs.Listing.{Entry, guard, reset, Listing, guardsOf, flagged, stepOf, cycle}
 use Rattle.format.specs.Encode.{encode, guardCount, LegalEntry, Legal}
-use Rattle.decode.specs.Fill.{empty, putHead, filled}
+use Rattle.filling.specs.Filling.{empty, putHead}
+use Rattle.decode.specs.Fill.{filled}
 use Rattle.format.specs.Fair.{legal-fair}
 use Rattle.decode.specs.Slices.{getD-all}
 use Rattle.decode.specs.Entries.{guards-length, count-append}

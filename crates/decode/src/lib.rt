@@ -1,9 +1,14 @@
 // The table by value: accepted bytes to clocks, steps, guards and resets in arrays.
+use filling::empty_table;
+use filling::put_guard;
+use filling::put_head;
+use filling::put_reset;
+use filling::put_step;
+use filling::relation_of;
+use records::body_size;
 use table::Guard;
 use table::Read;
-use table::Relation;
 use table::Table;
-use wire::body_size;
 use wire::byte_at;
 use wire::read;
 ghost use mathlib.Core.Path.{_≡_};
@@ -11,26 +16,9 @@ ghost use Prim.Native.Nat.{_≤_, _+_};
 ghost use lib.ListN.{length, drop};
 ghost use Rattle.wire.specs.Records.{recordAt, records};
 ghost use Rattle.wire.specs.Reading.{readOf};
-ghost use Rattle.wire.specs.Listing.{relationOf, guardIn};
-ghost use Rattle.decode.specs.Fill.{empty, putHead, putGuard, putReset, putStep, put, filled, tableOf};
-
-fn relation_of(code: usize) -> Relation
-    ensures { λ r. ⌜ r ≡ relationOf code ⌝ }
-{
-    if code == 0 {
-        return Relation::Under;
-    }
-    if code == 1 {
-        return Relation::AtMost;
-    }
-    if code == 2 {
-        return Relation::Exactly;
-    }
-    if code == 3 {
-        return Relation::AtLeast;
-    }
-    Relation::Over
-}
+ghost use Rattle.wire.specs.Listing.{guardIn};
+ghost use Rattle.filling.specs.Filling.{empty};
+ghost use Rattle.decode.specs.Fill.{put, filled, tableOf};
 
 // The guard whose record begins at a place.
 fn guard_at(bytes: &[u8], at: usize) -> Guard
@@ -42,84 +30,10 @@ fn guard_at(bytes: &[u8], at: usize) -> Guard
     let low = byte_at(bytes, at + 3);
     let high = byte_at(bytes, at + 4);
     Guard {
-        clock,
+        clock: clock as u8,
         relation,
-        constant: (low + high * 256) as u64,
+        constant: (low + high * 256) as u16,
     }
-}
-
-fn empty_table() -> Table
-    ensures { λ r. ⌜ r ≡ empty ⌝ }
-{
-    let none = Guard {
-        clock: 0,
-        relation: Relation::Under,
-        constant: 0,
-    };
-    Table {
-        clocks: 0,
-        steps: 0,
-        guards: [none; 64],
-        ends: [0; 18],
-        resets: [false; 119],
-    }
-}
-
-fn put_head(t: Table, n: usize) -> Table
-    ensures { λ r. ⌜ r ≡ putHead n t ⌝ }
-{
-    let mut out = t;
-    out.clocks = n;
-    out
-}
-
-fn put_guard(t: Table, g: Guard) -> Table
-    ensures { λ r. ⌜ r ≡ putGuard g t ⌝ }
-{
-    let mut out = t;
-    let step = t.steps;
-    if 17 <= step {
-        return out;
-    }
-    let end = step + 1;
-    let count = t.ends[end];
-    if 64 <= count {
-        return out;
-    }
-    out.guards[count] = g;
-    out.ends[end] = count + 1;
-    out
-}
-
-fn put_reset(t: Table, clock: usize) -> Table
-    ensures { λ r. ⌜ r ≡ putReset clock t ⌝ }
-{
-    let mut out = t;
-    let step = t.steps;
-    if 17 <= step {
-        return out;
-    }
-    if 7 <= clock {
-        return out;
-    }
-    let flag = 7 * step + clock;
-    out.resets[flag] = true;
-    out
-}
-
-fn put_step(t: Table) -> Table
-    ensures { λ r. ⌜ r ≡ putStep t ⌝ }
-{
-    let mut out = t;
-    let step = t.steps;
-    if 16 <= step {
-        return out;
-    }
-    let end = step + 1;
-    let next = step + 2;
-    out.ends[next] = t.ends[end];
-    out.steps = end;
-    out
 }
 
 // The table with the record of a kind at a place put in.

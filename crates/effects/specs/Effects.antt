@@ -10,15 +10,15 @@ use Rattle.table.specs.Step.{Step, Fair, Fairs}
 use Rattle.runs.specs.Steps.{fairs-head, fairs-tail, steps-split}
 use Rattle.basics.specs.Choice.{both}
 use Rattle.zones.specs.Bound.{Sat}
-use Rattle.zones.specs.Matrix.{Matrix, Solves, Solution}
-use Rattle.zones.specs.Closure.{Closure, closing}
-use Rattle.effects.specs.Describes.{past, Describes, NoRun}
+use Rattle.zones.specs.Matrix.{Matrix, Solves, Solution, Flat}
+use Rattle.zones.specs.Closure.{Closure, closing, closure-canonical, canonical-for}
+use Rattle.effects.specs.Describes.{Describes, NoRun}
 use Rattle.effects.specs.Tightened.{free, tightened, free-flat, free-solves, tightened-flat, tightened-is}
-use Rattle.effects.specs.Demands.{matrixOf}
-use Rattle.effects.specs.Single.{fair-one, single, single-fails}
-use Rattle.effects.specs.StepDemands.{stepDemands, raw}
+use Rattle.effects.specs.Demands.{matrixOf, matrix-flat}
+use Rattle.effects.specs.Single.{fair-one, Moves, single, single-fails}
+use Rattle.effects.specs.StepDemands.{stepDemands, raw-is}
 use Rattle.effects.specs.Outer.{restrict}
-use Rattle.effects.specs.Join.{Glued, joined, join-fails}
+use Rattle.effects.specs.Join.{Both, joined, join-fails}
 
 -- An effect of σ.
 abbrev pub Effect : List Step → Type 0
@@ -47,7 +47,7 @@ module _ (A B : Matrix) where
   glue : Matrix
   glue = tightened Late late? (λ a b. B (a - 7) (b - 7)) left
 
-  glue-is : (P : ℕ) (x : ℕ → ℕ) → 0 < P → Solves 21 P glue x ↔ (Solves 14 P A x × Solves 14 P B (past x))
+  glue-is : (P : ℕ) (x : ℕ → ℕ) → 0 < P → Solves 21 P glue x ↔ Both A B P x
   unfolding glue left
   glue-is P x p = (out, into)
     where
@@ -59,7 +59,7 @@ module _ (A B : Matrix) where
           ↔ (Solves 21 P left x × ((a b : ℕ) → a < 21 → b < 21 → Late a b → Sat P (B (a - 7) (b - 7)) (x a) (x b)))
       second = tightened-is Late late? (λ a b. B (a - 7) (b - 7)) left 21 P x p
 
-      out : Solves 21 P glue x → Solves 14 P A x × Solves 14 P B (past x)
+      out : Solves 21 P glue x → Both A B P x
       out s = (
         (λ a b ha hb. first .0 (second .0 s .0) .1 a b (omega arith) (omega arith) (ha, hb)),
         λ a b ha hb.
@@ -68,7 +68,7 @@ module _ (A B : Matrix) where
             rw (e, f) at (second .0 s .1 (7 + a) (7 + b) (omega arith) (omega arith) (omega arith, omega arith)),
       )
 
-      into : Solves 14 P A x × Solves 14 P B (past x) → Solves 21 P glue x
+      into : Both A B P x → Solves 21 P glue x
       into (s, t) = second .1 (
         first .1 (free-solves 21 P x, λ a b ha hb h. s a b (h .0) (h .1)),
         λ a b ha hb h.
@@ -77,12 +77,9 @@ module _ (A B : Matrix) where
             rw (e, f) at (t (a - 7) (b - 7) (omega arith) (omega arith)),
       )
 
-  glued : Glued A B glue
+  glue-flat : Flat 21 glue
   unfolding glue left
-  glued = record {
-    level = tightened-flat Late late? _ left 21 (tightened-flat Early early? A free 21 (free-flat 21));
-    is = glue-is;
-  }
+  glue-flat = tightened-flat Late late? _ left 21 (tightened-flat Early early? A free 21 (free-flat 21))
 
 -- ---- The effect of two lists of steps, of one step, of every list
 
@@ -91,17 +88,23 @@ pub combine : (σ τ : List Step) → Fairs σ → Fairs τ → Effect σ → Ef
 combine σ τ f g (A, dA) (B, dB) = go (closing 21 (glue A B))
   where
     go : ((C : Matrix) × Closure 21 (glue A B) C) ⊎ (¬ Solution 21 (glue A B)) → Effect (σ ++ τ) ⊎ NoRun (σ ++ τ)
-    go (inl (C, c)) = inl (restrict C, joined σ τ A B f g dA dB (glue A B) (glued A B) C c)
-    go (inr n) = inr (join-fails σ τ A B f g dA dB (glue A B) (glued A B) n)
+    go (inl (C, c)) =
+        inl (
+          restrict C,
+          joined σ τ A B f g dA dB C
+              (canonical-for (Both A B) (closure-canonical c (glue-flat A B)) (glue-is A B)),
+        )
+    go (inr n) = inr (join-fails σ τ A B f g dA dB (λ P x p s. n (P, p, (x, glue-is A B P x p .1 s))))
 
 -- A step has an effect, or no run.
 step-effect : (s : Step) → Fair s → Effect (s ∷ []) ⊎ NoRun (s ∷ [])
-step-effect s f = go (closing 14 (matrixOf (stepDemands s)))
+step-effect s f = go (closing 14 (matrixOf (stepDemands 7 s)))
   where
-    go : ((C : Matrix) × Closure 14 (matrixOf (stepDemands s)) C) ⊎ (¬ Solution 14 (matrixOf (stepDemands s)))
+    go : ((C : Matrix) × Closure 14 (matrixOf (stepDemands 7 s)) C) ⊎ (¬ Solution 14 (matrixOf (stepDemands 7 s)))
         → Effect (s ∷ []) ⊎ NoRun (s ∷ [])
-    go (inl (C, c)) = inl (C, single s (matrixOf (stepDemands s)) f (raw s f) C c)
-    go (inr n) = inr (single-fails s (matrixOf (stepDemands s)) f (raw s f) n)
+    go (inl (C, c)) =
+        inl (C, single s f (canonical-for (Moves s) (closure-canonical c (matrix-flat 14 (stepDemands 7 s))) (raw-is s f)))
+    go (inr n) = inr (single-fails s f (λ P x p m. n (P, p, (x, raw-is s f P x p .1 m))))
 
 -- A list of one step or more has an effect, or no run.
 pub effect : (τ : List Step) → Fairs τ → 0 < length τ → Effect τ ⊎ NoRun τ

@@ -1,40 +1,38 @@
--- Two effects joined: the matrices share the configuration between them, vertices 7 to 13 of 21; their closure, with
--- these left out, is the effect of both lists of steps, one after the other.
+-- Two effects joined: the matrices share the configuration between them, vertices 7 to 13 of 21; their canonical matrix,
+-- with these left out, is the effect of both lists of steps, one after the other.
 use mathlib.Core.Path.{_≡_, refl, ap, _∙_}
-use mathlib.Core.Logic.{inl, inr, _↔_}
+use mathlib.Core.Logic.{inl, inr}
 use mathlib.Core.List.{List, _++_}
 use Prim.Native.Nat.{ℕ, _+_, _*_, _<_}
 use native.Mathlib.Omega.{arith}
 use native.Mathlib.Nat.{mul-pos}
 use Rattle.table.specs.Step.{Step, Fairs}
 use Rattle.runs.specs.Steps.{Config, Steps, steps-same, steps-join, steps-split, steps-affine}
-use Rattle.zones.specs.Matrix.{Matrix, Solves, Solution, Closed, Flat}
+use Rattle.zones.specs.Matrix.{Matrix, Solves, Closed, Flat}
 use Rattle.zones.specs.Extend.{Fits, Extension, extend}
-use Rattle.zones.specs.Closure.{Closure, closure-flat}
+use Rattle.zones.specs.Closure.{Canonical}
 use Rattle.effects.specs.Describes.{past, Scaled, Describes, NoRun}
 use Rattle.effects.specs.Outer.{outer, restrict, outer-low, Outside, outside, inner, inner-left, inner-right}
 use Rattle.effects.specs.Outer.{inner-low, outer-inner, row, row-left, row-middle, row-right, row-outer}
 
--- G has the solutions of A on the first fourteen vertices and of B on the last fourteen, and no others.
-pub record Glued (A B G : Matrix) : Type 0 where
-  pub level : Flat 21 G
-  pub is : (P : ℕ) (x : ℕ → ℕ) → 0 < P → Solves 21 P G x ↔ (Solves 14 P A x × Solves 14 P B (past x))
+-- x solves A on the first fourteen vertices, and B on the last fourteen.
+abbrev pub Both : Matrix → Matrix → ℕ → (ℕ → ℕ) → Type 0
+Both A B P x = Solves 14 P A x × Solves 14 P B (past x)
 
-module _ (σ τ : List Step) (A B : Matrix) (fσ : Fairs σ) (fτ : Fairs τ) (dA : Describes σ A) (dB : Describes τ B)
-    (G : Matrix) (gl : Glued A B G) where
-  -- A run, cut in two, solves the glued matrix.
-  whole : (P : ℕ) (u w v : Config) → 0 < P → Steps P σ u w → Steps P τ w v → Solves 21 P G (row u w v)
-  whole P u w v p r t = gl .is P (row u w v) p .1 (
+module _ (σ τ : List Step) (A B : Matrix) (fσ : Fairs σ) (fτ : Fairs τ) (dA : Describes σ A) (dB : Describes τ B) where
+  -- A run, cut in two, solves both.
+  whole : (P : ℕ) (u w v : Config) → 0 < P → Steps P σ u w → Steps P τ w v → Both A B P (row u w v)
+  whole P u w v p r t = (
     dA .sound P (row u w v) p (steps-same P σ fσ (row-left u w v) (row-middle u w v) r),
     dB .sound P (past (row u w v)) p (steps-same P τ fτ (row-middle u w v) (row-right u w v) t),
   )
 
-  -- Where it has no solution, there is no run.
-  pub join-fails : ¬ Solution 21 G → NoRun (σ ++ τ)
+  -- Where nothing solves both, there is no run.
+  pub join-fails : ((P : ℕ) (x : ℕ → ℕ) → 0 < P → ¬ Both A B P x) → NoRun (σ ++ τ)
   join-fails n P u v p r =
-      let t = steps-split P σ τ r in n (P, p, (row u (t .0) v, whole P u (t .0) v p (t .1) (t .2)))
+      let t = steps-split P σ τ r in n P (row u (t .0) v) p (whole P u (t .0) v p (t .1) (t .2))
 
-  module _ (C : Matrix) (cl : Closure 21 G C) where
+  module _ (C : Matrix) (cl : Canonical 21 C (Both A B)) where
     join-closed : Closed 14 (restrict C)
     unfolding restrict
     join-closed = record {
@@ -45,13 +43,13 @@ module _ (σ τ : List Step) (A B : Matrix) (fσ : Fairs σ) (fτ : Fairs τ) (d
 
     join-flat : Flat 14 (restrict C)
     unfolding restrict
-    join-flat a h = closure-flat cl (gl .level) (outer a) (outer-low a h)
+    join-flat a h = cl .flat (outer a) (outer-low a h)
 
     join-sound : (P : ℕ) (x : ℕ → ℕ) → 0 < P → Steps P (σ ++ τ) x (past x) → Solves 14 P (restrict C) x
     unfolding restrict
     join-sound P x p r a b ha hb =
         let t = steps-split P σ τ r in
-        let s = cl .keeps P (row x (t .0) (past x)) p (whole P x (t .0) (past x) p (t .1) (t .2)) in
+        let s = cl .is P (row x (t .0) (past x)) p .1 (whole P x (t .0) (past x) p (t .1) (t .2)) in
         rw (row-outer x (t .0) a ha, row-outer x (t .0) b hb)
         at (s (outer a) (outer b) (outer-low a ha) (outer-low b hb))
 
@@ -87,8 +85,8 @@ module _ (σ τ : List Step) (A B : Matrix) (fσ : Fairs σ) (fτ : Fairs τ) (d
         many : 0 < e .parts
         many = rw (e .parts-is) (mul-pos (e .scale-pos) p)
 
-        glued : Solves 14 (e .parts) A (e .value) × Solves 14 (e .parts) B (past (e .value))
-        glued = gl .is (e .parts) (e .value) many .0 (cl .back (e .parts) (e .value) many (r .1))
+        glued : Both A B (e .parts) (e .value)
+        glued = cl .is (e .parts) (e .value) many .0 (r .1)
 
         f : Scaled σ (e .parts) (e .value)
         f = dA .exact (e .parts) (e .value) many (glued .0)
@@ -142,6 +140,6 @@ module _ (σ τ : List Step) (A B : Matrix) (fσ : Fairs σ) (fτ : Fairs τ) (d
               num c d (f .shift) (g .shift) (e .value (7 + (7 + a))) (e .scale) (x (7 + a)) (e .shift) (right a l),
             )
 
-    -- The outer part of its closure is the effect of both lists of steps.
+    -- The outer part of their canonical matrix is the effect of both lists of steps.
     pub joined : Describes (σ ++ τ) (restrict C)
     joined = record { closed = join-closed; flat = join-flat; sound = join-sound; exact = join-exact }

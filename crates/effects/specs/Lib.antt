@@ -9,11 +9,17 @@ pub mod StepDemands
 pub mod Outer
 pub mod Join
 pub mod Effects
+-- without the clocks that a table does not have
+pub mod Sides
+pub mod Whole
+pub mod WholeStep
+pub mod WholeJoin
 -- its entries are in range
 pub mod Slide
 pub mod Range
 -- what a program that makes effects says of steps
 pub mod Tells
+pub mod Joining
 -- rounds: runs from an allowed start, and where their number does not matter
 pub mod Begins
 pub mod Settle

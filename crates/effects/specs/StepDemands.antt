@@ -1,42 +1,48 @@
--- The difference constraints of a step, between the configuration before it and the one after it: a matrix with the
--- solutions of the step.
+-- The difference constraints of a step, between the configuration before it, vertices 0 to w - 1, and the one after it,
+-- vertices w to 2 * w - 1: the clocks 1 to w - 1 are looked at.
 use mathlib.Core.Path.{_≡_, refl}
 use mathlib.Core.Logic.{_↔_, Iff·trans}
 use mathlib.Core.Bool.{Bool, true, false}
-use mathlib.Core.List.{List, [], _∷_, _++_}
-use Prim.Native.Nat.{ℕ, zero, suc, _+_, _≤_, _<_}
+use mathlib.Core.List.{List, [], _∷_, _++_, List·Memᴰ}
+use Prim.Native.Nat.{ℕ, zero, suc, _+_, _*_, _-_, _≤_, _<_}
 use native.Mathlib.Omega.{arith}
-use Rattle.table.specs.Step.{Step, resets, FairGuard, Fair}
+use Rattle.table.specs.Step.{Step, resets, Fair}
 use Rattle.table.specs.declared.Guard.{Guard}
 use Rattle.table.specs.declared.Relation.{Relation}
 use Rattle.table.specs.declared.Relation.the-variants.{Under, AtMost, Exactly, AtLeast, Over}
 use Rattle.runs.specs.declared.Demand.{Demand}
 use Rattle.runs.specs.Demand.{Holds, plus, guardDemands, guardsDemands}
 use Rattle.runs.specs.Satisfies.{Satisfies, guards-satisfies}
-use Rattle.runs.specs.Steps.{Move}
+use Rattle.runs.specs.Steps.{Met}
 use Rattle.runs.specs.Tools.{Every, every-nil, every-cons, every-append}
-use Rattle.effects.specs.Describes.{past}
-use Rattle.effects.specs.Demands.{Inside, matrixOf, matrix-flat, matrix-is, each, every-each}
-use Rattle.effects.specs.Single.{Raw}
+use Rattle.zones.specs.Matrix.{Solves}
+use Rattle.effects.specs.Demands.{matrixOf, matrix-is, each, every-each}
+use Rattle.effects.specs.Single.{Moves}
 
 -- The values at a and b are equal.
 abbrev pub equalDemands : ℕ → ℕ → List Demand
 equalDemands a b = plus a b 0 false ∷ plus b a 0 false ∷ []
 
 -- After the step, clock j was last reset by it, or when it was before.
-abbrev pub resetDemands : Bool → ℕ → List Demand
-resetDemands true j = equalDemands 7 (7 + j)
-resetDemands false j = equalDemands j (7 + j)
+abbrev pub resetDemands : ℕ → Bool → ℕ → List Demand
+resetDemands w true j = equalDemands w (w + j)
+resetDemands w false j = equalDemands j (w + j)
 
 -- Clock j was not last reset after the start, and what the step makes of it.
-abbrev pub clockDemands : Step → ℕ → List Demand
-clockDemands s j = plus 0 j 0 false ∷ resetDemands (resets s j) j
+abbrev pub clockDemands : ℕ → Step → ℕ → List Demand
+clockDemands w s j = plus 0 j 0 false ∷ resetDemands w (resets s j) j
 
 -- Time does not go back, the clocks, and the guards.
-unfoldable pub stepDemands : Step → List Demand
-stepDemands s = plus 7 0 0 false ∷ (each 6 (clockDemands s) ++ guardsDemands (s .guards) 7 (λ j. j))
+unfoldable pub stepDemands : ℕ → Step → List Demand
+stepDemands w s = plus w 0 0 false ∷ (each (w - 1) (clockDemands w s) ++ guardsDemands (s .guards) w (λ j. j))
 
--- ---- They say that the step is a move
+-- What they say of a row of values.
+pub record Parts (w P : ℕ) (x : ℕ → ℕ) (s : Step) : Type 0 where
+  pub later : x 0 ≤ x w
+  pub old : (j : ℕ) → 0 < j → j < w → x j ≤ x 0
+  pub guarded : (g : Guard) → List·Memᴰ g (s .guards) → Met (g .relation) (g .constant * P) (x (g .clock)) (x w)
+  pub reset : (j : ℕ) → 0 < j → j < w → resets s j ≡ true → x (w + j) ≡ x w
+  pub kept : (j : ℕ) → 0 < j → j < w → resets s j ≡ false → x (w + j) ≡ x j
 
 module _ (P : ℕ) (x : ℕ → ℕ) where
   equal-is : (a b : ℕ) → Satisfies P x (equalDemands a b) ↔ (x a ≡ x b)
@@ -49,124 +55,142 @@ module _ (P : ℕ) (x : ℕ → ℕ) where
     ),
   )
 
-  reset-in : (j : ℕ) (b : Bool) → (b ≡ true → x (7 + j) ≡ x 7) → (b ≡ false → x (7 + j) ≡ x j)
-      → Satisfies P x (resetDemands b j)
-  reset-in j true h k = equal-is 7 (7 + j) .1 (omega (arith, h refl))
-  reset-in j false h k = equal-is j (7 + j) .1 (omega (arith, k refl))
+  reset-in : (w j : ℕ) (b : Bool) → (b ≡ true → x (w + j) ≡ x w) → (b ≡ false → x (w + j) ≡ x j)
+      → Satisfies P x (resetDemands w b j)
+  reset-in w j true h k = equal-is w (w + j) .1 (omega (arith, h refl))
+  reset-in w j false h k = equal-is j (w + j) .1 (omega (arith, k refl))
 
-  module _ (s : Step) where
-    -- The parts of the demands of a step.
-    record Parts : Type 0 where
-      later : x 0 ≤ x 7
-      clocks : (j : ℕ) → 0 < j → j ≤ 6 → (x j ≤ x 0) × Satisfies P x (resetDemands (resets s j) j)
-      tests : Satisfies P x (guardsDemands (s .guards) 7 (λ j. j))
-
-    clock-is : (j : ℕ) → Satisfies P x (clockDemands s j) ↔ ((x j ≤ x 0) × Satisfies P x (resetDemands (resets s j) j))
+  module _ (w : ℕ) (s : Step) where
+    clock-is : (j : ℕ) → Satisfies P x (clockDemands w s j)
+        ↔ ((x j ≤ x 0) × Satisfies P x (resetDemands w (resets s j) j))
     clock-is j = (
       (λ h. let k = every-cons (Holds P x) _ _ .0 h in (omega (arith, k .0 .holds), k .1)),
       λ h. every-cons (Holds P x) _ _ .1 (record { holds = omega (arith, h .0) }, h .1),
     )
 
-    parts-is : Satisfies P x (stepDemands s) ↔ Parts
+    pub step-is : Satisfies P x (stepDemands w s) ↔ Parts w P x s
     unfolding stepDemands
-    parts-is = (there, back)
+    step-is = (there, back)
       where
-        clocks : Satisfies P x (each 6 (clockDemands s)) ↔ ((j : ℕ) → 0 < j → j ≤ 6 → Satisfies P x (clockDemands s j))
-        clocks = every-each (Holds P x) (clockDemands s) 6
+        clocks : Satisfies P x (each (w - 1) (clockDemands w s))
+            ↔ ((j : ℕ) → 0 < j → j ≤ w - 1 → Satisfies P x (clockDemands w s j))
+        clocks = every-each (Holds P x) (clockDemands w s) (w - 1)
 
-        there : Satisfies P x (stepDemands s) → Parts
-        there h =
-            let k = every-cons (Holds P x) _ _ .0 h in
-            let l = every-append (Holds P x) (each 6 (clockDemands s)) _ .0 (k .1) in
-            record {
-              later = omega (arith, k .0 .holds);
-              clocks = λ j p b. clock-is j .0 (clocks .0 (l .0) j p b);
-              tests = l .1;
-            }
+        there : Satisfies P x (stepDemands w s) → Parts w P x s
+        there h = record {
+          later = omega (arith, k .0 .holds);
+          old = λ j p b. clock j p b .0;
+          guarded = guards-satisfies P x (s .guards) w (λ j. j) .1 (l .1);
+          reset = λ j p b e. omega (arith, equal-is w (w + j) .0 (rw e at (clock j p b .1)));
+          kept = λ j p b e. omega (arith, equal-is j (w + j) .0 (rw e at (clock j p b .1)));
+        }
+          where
+            k : Holds P x (plus w 0 0 false)
+                × Satisfies P x (each (w - 1) (clockDemands w s) ++ guardsDemands (s .guards) w (λ j. j))
+            k = every-cons (Holds P x) _ _ .0 h
 
-        back : Parts → Satisfies P x (stepDemands s)
+            l : Satisfies P x (each (w - 1) (clockDemands w s)) × Satisfies P x (guardsDemands (s .guards) w (λ j. j))
+            l = every-append (Holds P x) (each (w - 1) (clockDemands w s)) _ .0 (k .1)
+
+            clock : (j : ℕ) → 0 < j → j < w → (x j ≤ x 0) × Satisfies P x (resetDemands w (resets s j) j)
+            clock j p b = clock-is j .0 (clocks .0 (l .0) j p (omega arith))
+
+        back : Parts w P x s → Satisfies P x (stepDemands w s)
         back h =
             every-cons (Holds P x) _ _ .1 (
               record { holds = omega (arith, h .later) },
-              every-append (Holds P x) (each 6 (clockDemands s)) _ .1
-                  (clocks .1 (λ j p b. clock-is j .1 (h .clocks j p b)), h .tests),
+              every-append (Holds P x) (each (w - 1) (clockDemands w s)) _ .1
+                  (clocks .1 clock, guards-satisfies P x (s .guards) w (λ j. j) .0 (h .guarded)),
             )
-
-    -- A row of values satisfies the demands exactly where it is the two ends of a move.
-    pub step-is : Satisfies P x (stepDemands s) ↔ Move P s x (past x)
-    step-is = (λ h. there (parts-is .0 h), λ m. parts-is .1 (back m))
-      where
-        there : Parts → Move P s x (past x)
-        there h = record {
-          later = h .later;
-          old = old;
-          guarded = guards-satisfies P x (s .guards) 7 (λ j. j) .1 (h .tests);
-          reset = λ j p l e. omega (arith, equal-is 7 (7 + j) .0 (rw e at (h .clocks j p (omega arith) .1)));
-          kept = λ j p l e. omega (arith, equal-is j (7 + j) .0 (rw e at (h .clocks j p (omega arith) .1)));
-        }
           where
-            old : (j : ℕ) → j < 7 → x j ≤ x 0
-            old zero l = omega arith
-            old (suc j) l = h .clocks (suc j) (omega arith) (omega arith) .0
+            clock : (j : ℕ) → 0 < j → j ≤ w - 1 → Satisfies P x (clockDemands w s j)
+            clock j p b =
+                clock-is j .1 (
+                  h .old j p (omega arith),
+                  reset-in w j (resets s j) (h .reset j p (omega arith)) (h .kept j p (omega arith)),
+                )
 
-        back : Move P s x (past x) → Parts
-        back m = record {
-          later = m .later;
-          clocks = λ j p l. (
-            m .old j (omega arith),
-            reset-in j (resets s j) (m .reset j p (omega arith)) (m .kept j p (omega arith)),
-          );
-          tests = guards-satisfies P x (s .guards) 7 (λ j. j) .0 (m .guarded);
-        }
+-- ---- They are short
 
--- ---- They lie between the fourteen vertices
+-- Between two of the first 2 * w vertices, and of at most 4000 ticks either way.
+pub record Short (w : ℕ) (d : Demand) : Type 0 where
+  pub from : d .from < w + w
+  pub to : d .to < w + w
+  pub up : d .up ≤ 4000
+  pub down : d .down ≤ 4000
 
-abbrev Among : Demand → Type 0
-Among d = (d .from < 14) × (d .to < 14)
+-- The clocks of a step are among 1 to w - 1: its guards are on these, and it resets no other.
+pub record Uses (w : ℕ) (s : Step) : Type 0 where
+  pub guards : (g : Guard) → List·Memᴰ g (s .guards) → g .clock < w
+  pub resets : (j : ℕ) → w ≤ j → j < 7 → resets s j ≡ false
 
-among-one : {d : Demand} → Among d → Every Among (d ∷ [])
-among-one h = every-cons Among _ _ .1 (h, every-nil Among)
+module _ (w : ℕ) where
+  one : {d : Demand} → Short w d → Every (Short w) (d ∷ [])
+  one h = every-cons (Short w) _ _ .1 (h, every-nil (Short w))
 
-among-two : {c d : Demand} → Among c → Among d → Every Among (c ∷ d ∷ [])
-among-two h k = every-cons Among _ _ .1 (h, among-one k)
+  two : {c d : Demand} → Short w c → Short w d → Every (Short w) (c ∷ d ∷ [])
+  two h k = every-cons (Short w) _ _ .1 (h, one k)
 
-reset-among : (b : Bool) (j : ℕ) → j ≤ 6 → Every Among (resetDemands b j)
-reset-among true j l = among-two (omega arith, omega arith) (omega arith, omega arith)
-reset-among false j l = among-two (omega arith, omega arith) (omega arith, omega arith)
+  reset-short : (b : Bool) (j : ℕ) → j < w → Every (Short w) (resetDemands w b j)
+  reset-short true j l = two (omega arith) (omega arith)
+  reset-short false j l = two (omega arith) (omega arith)
 
-guard-among : (r : Relation) (j c : ℕ) → j < 7 → Every Among (guardDemands r c j 7)
-guard-among Under j c l = among-one (omega arith, omega arith)
-guard-among AtMost j c l = among-one (omega arith, omega arith)
-guard-among Exactly j c l = among-two (omega arith, omega arith) (omega arith, omega arith)
-guard-among AtLeast j c l = among-one (omega arith, omega arith)
-guard-among Over j c l = among-one (omega arith, omega arith)
+  guard-short : (r : Relation) (j c : ℕ) → j < w → c ≤ 4000 → Every (Short w) (guardDemands r c j w)
+  guard-short Under j c l h = one (omega arith)
+  guard-short AtMost j c l h = one (omega arith)
+  guard-short Exactly j c l h = two (omega arith) (omega arith)
+  guard-short AtLeast j c l h = one (omega arith)
+  guard-short Over j c l h = one (omega arith)
 
-guards-among : (gs : List Guard) → Every FairGuard gs → Every Among (guardsDemands gs 7 (λ j. j))
-unfolding guardsDemands
-guards-among [] h = every-nil Among
-guards-among (g ∷ gs) h =
-    let k = every-cons FairGuard g gs .0 h in
-    every-append Among (guardDemands (g .relation) (g .constant) (g .clock) 7) _ .1
-    (guard-among (g .relation) (g .clock) (g .constant) (k .0 .last), guards-among gs (k .1))
+  guards-short : (gs : List Guard) → Every (λ g. (g .clock < w) × (g .constant ≤ 4000)) gs
+      → Every (Short w) (guardsDemands gs w (λ j. j))
+  unfolding guardsDemands
+  guards-short [] h = every-nil (Short w)
+  guards-short (g ∷ gs) h =
+      let k = every-cons (λ g. (g .clock < w) × (g .constant ≤ 4000)) g gs .0 h in
+      every-append (Short w) (guardDemands (g .relation) (g .constant) (g .clock) w) _ .1
+      (guard-short (g .relation) (g .clock) (g .constant) (k .0 .0) (k .0 .1), guards-short gs (k .1))
 
--- All demands of a step that a table may have.
-pub step-inside : (s : Step) → Fair s → Inside 14 (stepDemands s)
-unfolding stepDemands
-step-inside s f =
-    every-cons Among _ _ .1 (
-      (omega arith, omega arith),
-      every-append Among (each 6 (clockDemands s)) _ .1 (every-each Among (clockDemands s) 6 .1 clocks, tests),
-    )
+  pub step-short : 0 < w → (s : Step) → Fair s → ((g : Guard) → List·Memᴰ g (s .guards) → g .clock < w)
+      → Every (Short w) (stepDemands w s)
+  unfolding stepDemands
+  step-short p s f u =
+      every-cons (Short w) _ _ .1 (
+        omega arith,
+        every-append (Short w) (each (w - 1) (clockDemands w s)) _ .1
+            (every-each (Short w) (clockDemands w s) (w - 1) .1 clocks, guards-short (s .guards) tests),
+      )
+    where
+      clocks : (j : ℕ) → 0 < j → j ≤ w - 1 → Every (Short w) (clockDemands w s j)
+      clocks j q l = every-cons (Short w) _ _ .1 (omega arith, reset-short (resets s j) j (omega arith))
+
+      tests : Every (λ g. (g .clock < w) × (g .constant ≤ 4000)) (s .guards)
+      tests g i = (u g i, f .guards g i .small)
+
+-- ---- With all seven vertices of a configuration they say that the step is a move
+
+moves-is : (P : ℕ) (x : ℕ → ℕ) (s : Step) → Parts 7 P x s ↔ Moves s P x
+moves-is P x s = (there, back)
   where
-    clocks : (j : ℕ) → 0 < j → j ≤ 6 → Every Among (clockDemands s j)
-    clocks j p l = every-cons Among _ _ .1 ((omega arith, omega arith), reset-among (resets s j) j l)
+    there : Parts 7 P x s → Moves s P x
+    there h = record { later = h .later; old = old; guarded = h .guarded; reset = h .reset; kept = h .kept }
+      where
+        old : (j : ℕ) → j < 7 → x j ≤ x 0
+        old zero l = omega arith
+        old (suc j) l = h .old (suc j) (omega arith) l
 
-    tests : Every Among (guardsDemands (s .guards) 7 (λ j. j))
-    tests = guards-among (s .guards) (f .guards)
+    back : Moves s P x → Parts 7 P x s
+    back m = record {
+      later = m .later;
+      old = λ j p l. m .old j l;
+      guarded = m .guarded;
+      reset = m .reset;
+      kept = m .kept;
+    }
 
--- The matrix of these demands has the solutions of the step.
-pub raw : (s : Step) → Fair s → Raw s (matrixOf (stepDemands s))
-raw s f = record {
-  level = matrix-flat 14 (stepDemands s);
-  is = λ P x p. Iff·trans (matrix-is 14 P x p (stepDemands s) (step-inside s f)) (step-is P x s);
-}
+-- The matrix of these constraints has the solutions of the step.
+pub raw-is : (s : Step) → Fair s → (P : ℕ) (x : ℕ → ℕ) → 0 < P → Solves 14 P (matrixOf (stepDemands 7 s)) x ↔ Moves s P x
+raw-is s f P x p = Iff·trans (matrix-is 14 P x p (stepDemands 7 s) inside) (Iff·trans (step-is P x 7 s) (moves-is P x s))
+  where
+    inside : Every (λ d. (d .from < 14) × (d .to < 14)) (stepDemands 7 s)
+    inside d i = let h = step-short 7 (omega arith) s f (λ g m. f .guards g m .last) d i in (h .from, h .to)

@@ -6,8 +6,9 @@ use Prim.Native.Nat.{ℕ, suc, _≤_}
 use native.Mathlib.Omega.{arith}
 use lib.ListN.{length}
 use Rattle.table.specs.declared.Read.the-variants as read
-use Rattle.wire.specs.declared.Verdict.{Verdict}
-use Rattle.wire.specs.Records.{Record, bodySize, recordAt, recordsFrom, records}
+use Rattle.records.specs.declared.Verdict.{Verdict}
+use Rattle.records.specs.Rules.{bodySize}
+use Rattle.wire.specs.Records.{Record, recordAt, recordsFrom, records}
 use Rattle.wire.specs.Reading.{byte, judgeOf, check, start, readOf}
 use Rattle.wire.specs.Laws.{onward, read-short, counted-short}
 use Rattle.wire.specs.Listing.{Listing, stepsIn, listing, guardsOf}

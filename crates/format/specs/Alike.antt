@@ -11,9 +11,10 @@ use Rattle.table.specs.Refusal.{numberOf}
 use Rattle.table.specs.declared.Fault.the-variants as fault
 use Rattle.table.specs.declared.Refusal.{Refusal}
 use Rattle.table.specs.declared.Read.the-variants as read
-use Rattle.wire.specs.declared.Tally.{Tally}
-use Rattle.wire.specs.declared.Verdict.the-variants.{Refused, Last}
-use Rattle.wire.specs.Records.{bodySize, recordAt, recordsAt}
+use Rattle.records.specs.declared.Tally.{Tally}
+use Rattle.records.specs.declared.Verdict.the-variants.{Refused, Last}
+use Rattle.records.specs.Rules.{bodySize}
+use Rattle.wire.specs.Records.{recordAt, recordsAt}
 use Rattle.wire.specs.Reading.{judgeOf, readOf}
 use Rattle.wire.specs.Laws.{onward, check-on, check-out, tail-more}
 use Rattle.format.specs.Reach.{recordOf, after, stands, reach}

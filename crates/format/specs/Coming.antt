@@ -8,10 +8,11 @@ use lib.ListN.{length, getD, drop, length-take, length-drop}
 use Rattle.table.specs.declared.Fault.the-variants as fault
 use Rattle.table.specs.declared.Refusal.{Refusal}
 use Rattle.table.specs.declared.Read.the-variants as read
-use Rattle.wire.specs.declared.Tally.{Tally}
-use Rattle.wire.specs.declared.Verdict.{Verdict}
-use Rattle.wire.specs.declared.Verdict.the-variants.{Refused, Next, Last}
-use Rattle.wire.specs.Records.{Record, bodySize, recordsAt, records, records-next}
+use Rattle.records.specs.declared.Tally.{Tally}
+use Rattle.records.specs.declared.Verdict.{Verdict}
+use Rattle.records.specs.declared.Verdict.the-variants.{Refused, Next, Last}
+use Rattle.records.specs.Rules.{bodySize}
+use Rattle.wire.specs.Records.{Record, recordsAt, records, records-next}
 use Rattle.wire.specs.Reading.{judgeOf, tail, check, start, readOf}
 use Rattle.wire.specs.Laws.{onward, check-on, check-out, tail-more, tail-none, read-short}
 use Rattle.format.specs.Shapes.{refused-counted}

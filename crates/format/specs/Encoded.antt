@@ -13,10 +13,11 @@ use Rattle.table.specs.declared.Relation.{Relation}
 use Rattle.table.specs.declared.Relation.the-variants.{Under, AtMost, Exactly, AtLeast, Over}
 use Rattle.table.specs.declared.Read.{Read}
 use Rattle.table.specs.declared.Read.the-variants as read
-use Rattle.wire.specs.declared.Tally.{Tally}
-use Rattle.wire.specs.declared.Verdict.the-variants.{Next, Last}
+use Rattle.records.specs.declared.Tally.{Tally}
+use Rattle.records.specs.declared.Verdict.the-variants.{Next, Last}
 use Rattle.wire.specs.Records.{recordsFrom}
-use Rattle.wire.specs.Reading.{headed, guarded, cleared, finished, ended, wholeOf, judgeOf, check, start, readOf}
+use Rattle.records.specs.Rules.{headed, guarded, cleared, finished, ended}
+use Rattle.wire.specs.Reading.{wholeOf, judgeOf, check, start, readOf}
 use Rattle.wire.specs.Laws.{read-short}
 use Rattle.wire.specs.Listing.{Entry, guard, reset, Listing, stepsIn, listing, guardsOf}
 use Rattle.format.specs.Encode.{

@@ -12,9 +12,10 @@ use Rattle.table.specs.Refusal.{numberOf}
 use Rattle.table.specs.declared.Fault.the-variants as fault
 use Rattle.table.specs.declared.Refusal.{Refusal}
 use Rattle.table.specs.declared.Read.the-variants as read
-use Rattle.wire.specs.declared.Tally.{Tally}
-use Rattle.wire.specs.declared.Verdict.the-variants.{Refused}
-use Rattle.wire.specs.Records.{Record, bodySize, recordsAt, records, records-next}
+use Rattle.records.specs.declared.Tally.{Tally}
+use Rattle.records.specs.declared.Verdict.the-variants.{Refused}
+use Rattle.records.specs.Rules.{bodySize}
+use Rattle.wire.specs.Records.{Record, recordsAt, records, records-next}
 use Rattle.wire.specs.Reading.{judgeOf, readOf}
 use Rattle.format.specs.Reach.{recordOf, after, stands, reach}
 use Rattle.format.specs.Rows.{row-is, refused-cut, refused-uncut}

@@ -10,25 +10,13 @@ use lib.ListN.{length, getD}
 use borrow.Author.Tests.{ltb-true, leb-true, eqb-true, eqb-false, not-true}
 use Rattle.table.specs.declared.Fault.{Fault}
 use Rattle.table.specs.declared.Refusal.{Refusal}
-use Rattle.wire.specs.declared.Tally.{Tally}
-use Rattle.wire.specs.declared.Verdict.{Verdict}
-use Rattle.wire.specs.declared.Verdict.the-variants.{Refused, Next, Last}
-use Rattle.wire.specs.Records.{Record, bodySize}
-use Rattle.wire.specs.Reading.{
-  need,
-  within,
-  agree,
-  headed,
-  guarded,
-  cleared,
-  finished,
-  ended,
-  byte,
-  constantOf,
-  wholeOf,
-  judgeOf,
-}
-use Rattle.wire.specs.Listing.{Entry, guard, reset, relationOf, guardIn}
+use Rattle.records.specs.declared.Tally.{Tally}
+use Rattle.records.specs.declared.Verdict.{Verdict}
+use Rattle.records.specs.declared.Verdict.the-variants.{Refused, Next, Last}
+use Rattle.records.specs.Rules.{bodySize, need, within, headed, guarded, cleared, finished, ended, relationOf}
+use Rattle.wire.specs.Records.{Record}
+use Rattle.wire.specs.Reading.{agree, byte, constantOf, wholeOf, judgeOf}
+use Rattle.wire.specs.Listing.{Entry, guard, reset, guardIn}
 use Rattle.format.specs.Encode.{relationCode, LegalEntry}
 use Rattle.wire.specs.Records.{Bytes}
 use Rattle.format.specs.Located.{Located}

@@ -5,7 +5,8 @@ use mathlib.Core.List.{List, [], _∷_, _++_, List·Memᴰ, List·Memᴰ·cases-
 use Prim.Native.Nat.{ℕ, zero, suc, _+_, _≤_, _<_}
 use native.Mathlib.Omega.{arith}
 use lib.ListN.{length, getD, take, drop, length-take, take-append-drop}
-use Rattle.wire.specs.Records.{Bytes, Record, bodySize, recordAt, recordsFrom}
+use Rattle.records.specs.Rules.{bodySize}
+use Rattle.wire.specs.Records.{Bytes, Record, recordAt, recordsFrom}
 
 -- a record found in bytes at a place or after it: its body is no longer than its kind says, and made of bytes
 pub record Located (at : ℕ) (r : Record) : Type 0 where

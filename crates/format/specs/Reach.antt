@@ -6,8 +6,9 @@ use lib.Dec.{eqb}
 use lib.ListN.{getD, drop}
 use Rattle.table.specs.Refusal.{numberOf}
 use Rattle.table.specs.declared.Refusal.{Refusal}
-use Rattle.wire.specs.Records.{Record, bodySize, recordAt}
-use Rattle.wire.specs.Reading.{within, agree}
+use Rattle.records.specs.Rules.{bodySize, within}
+use Rattle.wire.specs.Records.{Record, recordAt}
+use Rattle.wire.specs.Reading.{agree}
 
 -- the record that begins at a place, and the place after it
 abbrev pub recordOf : List ℕ → ℕ → Record

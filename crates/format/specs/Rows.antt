@@ -12,24 +12,12 @@ use Rattle.table.specs.Refusal.{numberOf}
 use Rattle.table.specs.declared.Fault.{Fault}
 use Rattle.table.specs.declared.Fault.the-variants as fault
 use Rattle.table.specs.declared.Refusal.{Refusal}
-use Rattle.wire.specs.declared.Tally.{Tally}
-use Rattle.wire.specs.declared.Verdict.{Verdict}
-use Rattle.wire.specs.declared.Verdict.the-variants.{Refused, Next, Last}
-use Rattle.wire.specs.Records.{Record, bodySize}
-use Rattle.wire.specs.Reading.{
-  need,
-  within,
-  agree,
-  headed,
-  guarded,
-  cleared,
-  finished,
-  ended,
-  byte,
-  constantOf,
-  wholeOf,
-  judgeOf,
-}
+use Rattle.records.specs.declared.Tally.{Tally}
+use Rattle.records.specs.declared.Verdict.{Verdict}
+use Rattle.records.specs.declared.Verdict.the-variants.{Refused, Next, Last}
+use Rattle.records.specs.Rules.{bodySize, need, within, headed, guarded, cleared, finished, ended}
+use Rattle.wire.specs.Records.{Record}
+use Rattle.wire.specs.Reading.{agree, byte, constantOf, wholeOf, judgeOf}
 use Rattle.format.specs.Shapes.{false-true}
 use Rattle.format.specs.Reach.{stands}
 

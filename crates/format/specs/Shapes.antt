@@ -9,13 +9,14 @@ use Rattle.table.specs.declared.Relation.{Relation}
 use Rattle.table.specs.declared.Relation.the-variants.{Under, AtMost, Exactly, AtLeast, Over}
 use Rattle.table.specs.declared.Refusal.{Refusal}
 use Rattle.table.specs.declared.Read.the-variants as read
-use Rattle.wire.specs.declared.Tally.{Tally}
-use Rattle.wire.specs.declared.Verdict.{Verdict}
-use Rattle.wire.specs.declared.Verdict.the-variants.{Refused, Next, Last}
+use Rattle.records.specs.declared.Tally.{Tally}
+use Rattle.records.specs.declared.Verdict.{Verdict}
+use Rattle.records.specs.declared.Verdict.the-variants.{Refused, Next, Last}
 use Rattle.wire.specs.Records.{Record}
 use Rattle.wire.specs.Reading.{judgeOf, check}
 use Rattle.wire.specs.Laws.{onward}
-use Rattle.wire.specs.Listing.{Entry, guard, reset, entry, relationOf, contentOf, stepsIn, guardsOf}
+use Rattle.records.specs.Rules.{relationOf}
+use Rattle.wire.specs.Listing.{Entry, guard, reset, entry, contentOf, stepsIn, guardsOf}
 use Rattle.format.specs.Encode.{relationCode, LegalEntry}
 
 -- the record of the head; and at a place, of an entry, of a finished step and of the end

@@ -1,9 +1,6 @@
 -- two lists of steps, one after the other
-pub mod Blocks
-pub mod Laying
-pub mod Swapping
-pub mod Gluing
-pub mod Middle
 pub mod Joining
+-- effects in their places
+pub mod Keeping
 -- the steps of a table
 pub mod Round

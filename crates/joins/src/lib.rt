@@ -1,113 +1,93 @@
-// The effect of steps one after the other, as difference bound matrices: see crate effects.
+// The effects of steps one after the other, in places of a lent row: see crate effects. The row has 25 places of 196 codes.
 use closing::close;
+use gluing::glue;
 use steps::step_effect;
 use table::Table;
-use zones::Closing;
-use zones::Matrix;
-use zones::NONE;
-use zones::tighter;
 ghost use mathlib.Core.Path.{_≡_};
-ghost use Prim.Native.Nat.{_+_, _-_, _<_, _≤_, _^_};
+ghost use Prim.Native.Nat.{_+_, _*_, _<_, _≤_};
 ghost use lib.ListN.{length};
-ghost use Rattle.table.specs.Step.{Good};
-ghost use Rattle.zones.specs.Linear.{AllWithin};
-ghost use Rattle.zones.specs.Cells.{matrix, answer};
-ghost use Rattle.joins.specs.Blocks.{stripOf, blockOf};
-ghost use Rattle.joins.specs.Laying.{layOf};
-ghost use Rattle.joins.specs.Gluing.{glueOf};
-ghost use Rattle.joins.specs.Joining.{joinOf};
-ghost use Rattle.joins.specs.Round.{firstOf, roundOf};
+ghost use Rattle.table.specs.Step.{stepsFrom, stepsOf, Good};
+ghost use Rattle.zones.specs.Cells.{matrix};
+ghost use Rattle.effects.specs.Describes.{Describes};
+ghost use Rattle.effects.specs.Whole.{Side, whole};
+ghost use Rattle.effects.specs.Tells.{Tells};
+ghost use Rattle.effects.specs.Joining.{Joinable, Joins};
+ghost use Rattle.gluing.specs.Laying.{effectAt};
+ghost use Rattle.joins.specs.Keeping.{LineTo, LinesTo};
+ghost use Rattle.joins.specs.Round.{UsesAll};
 
-// Lays the seven codes of m from index `from` on over those of `out` from index `to` on: the tighter stays.
-fn strip(out: &mut [u64], m: &[u64], to: usize, from: usize)
-    requires { ⌜ (length (now out) ≡ 441) × (length (now m) ≡ 441) × (to + 7 ≤ 441) × (from + 7 ≤ 441) ⌝ }
-    ensures { λ _. ⌜ now (out .exit) ≡ stripOf to from (now (m .entry)) 7 (now (out .entry)) ⌝ }
+// The effect at place a and then the one at place b, in the cells of `out`, or that both together have no run.
+pub fn join(out: &mut [u64], row: &[u64], a: usize, b: usize, side: usize) -> bool
+    requires { ⌜ (length (now out) ≡ 441) × (length (now row) ≡ 4900) × Side side × (a < 25) × (b < 25)
+        × Joinable side (effectAt (now row) (a * 196)) × Joinable side (effectAt (now row) (b * 196)) ⌝ }
+    ensures { λ r. ⌜ Joins side (effectAt (now (row .entry)) (a * 196)) (effectAt (now (row .entry)) (b * 196)) r
+        (matrix (now (out .exit))) ⌝ }
+{
+    glue(out, row, a, b, side);
+    close(out, side + side, side + side + side)
+}
+
+// Keeps `size` cells of `out` from index `from` on in the row, from index `to` on.
+fn keep_line(row: &mut [u64], out: &[u64], to: usize, from: usize, size: usize)
+    requires { ⌜ (length (now row) ≡ 4900) × (length (now out) ≡ 441) × (to + size ≤ 4900) × (from + size ≤ 441) ⌝ }
+    ensures { λ _. ⌜ LineTo to from size (now (out .entry)) (now (row .entry)) (now (row .exit)) ⌝ }
 {
     let mut c: usize = 0;
-    while c < 7 {
-        let old = out[to + c];
-        let new = m[from + c];
-        out[to + c] = tighter(old, new);
+    while c < size {
+        row[to + c] = out[from + c];
         c += 1;
     }
 }
 
-// The same of seven rows of seven.
-fn block(out: &mut [u64], m: &[u64], to: usize, from: usize)
-    requires { ⌜ (length (now out) ≡ 441) × (length (now m) ≡ 441) × (to + 133 ≤ 441) × (from + 133 ≤ 441) ⌝ }
-    ensures { λ _. ⌜ now (out .exit) ≡ blockOf to from (now (m .entry)) 7 (now (out .entry)) ⌝ }
+// Keeps the bounds among the first 2 * side vertices of `out` at a place of the row.
+pub fn keep(row: &mut [u64], out: &[u64], place: usize, side: usize)
+    requires { ⌜ (length (now row) ≡ 4900) × (length (now out) ≡ 441) × (place < 25) × (side ≤ 7) ⌝ }
+    ensures { λ _. ⌜ LinesTo (side + side) (place * 196) (side + side) (now (out .entry)) (now (row .entry)) (now (row .exit)) ⌝ }
 {
+    let size = side + side;
     let mut r: usize = 0;
-    while r < 7 {
-        strip(out, m, to + r * 21, from + r * 21);
+    while r < size {
+        keep_line(row, out, place * 196 + r * 14, r * 21, size);
         r += 1;
     }
 }
 
-// Lays an effect over `out`: the configuration before comes to the vertices from lo on, the one after to those from hi.
-fn lay(out: &mut [u64], m: &[u64], lo: usize, hi: usize)
-    requires { ⌜ (length (now out) ≡ 441) × (length (now m) ≡ 441) × (lo + 7 ≤ 21) × (hi + 7 ≤ 21) ⌝ }
-    ensures { λ _. ⌜ now (out .exit) ≡ layOf lo hi (now (m .entry)) (now (out .entry)) ⌝ }
+// Step i after the steps before it, whose effect is at place 0: the effect of all of them there, or that they have no run.
+fn step_more(row: &mut [u64], out: &mut [u64], t: Table, i: usize, side: usize) -> bool
+    requires { ⌜ (length (now row) ≡ 4900) × (length (now out) ≡ 441) × Good t × Side side × UsesAll side t × (0 < i)
+        × (i < t .steps) × Describes (stepsFrom t 0 i) (whole side (effectAt (now row) 0)) ⌝ }
+    ensures { λ r. ⌜ Tells (stepsFrom t 0 (i + 1)) r (whole side (effectAt (now (row .exit)) 0)) ⌝ }
 {
-    block(out, m, lo * 22, 0);
-    block(out, m, lo * 21 + hi, 7);
-    block(out, m, hi * 21 + lo, 147);
-    block(out, m, hi * 22, 154);
-}
-
-// Two effects as one matrix: before at vertices 0 to 6, after at 7 to 13, and between, which they share, at 14 to 20.
-fn glue(a: Matrix, b: Matrix) -> Matrix
-    ensures { λ r. ⌜ r .cells ≡ glueOf (a .cells) (b .cells) ⌝ }
-{
-    let first = a.cells;
-    let second = b.cells;
-    let mut out = [NONE; 441];
-    lay(&mut out, &first, 0, 14);
-    lay(&mut out, &second, 14, 7);
-    Matrix { cells: out }
-}
-
-// The effect of some steps after those of others, or that both together have no run.
-pub fn join(a: Matrix, b: Matrix) -> Closing
-    requires { ⌜ (AllWithin 14 (2 ^ 52) (matrix (a .cells))) × (AllWithin 14 (2 ^ 52) (matrix (b .cells))) ⌝ }
-    ensures { λ r. ⌜ joinOf (a .cells) (b .cells) ≡ answer (r .ok) (r .zone .cells) ⌝ }
-{
-    let whole = glue(a, b);
-    let mut cells = whole.cells;
-    let ok = close(&mut cells, 14, 21);
-    Closing {
-        ok: ok,
-        zone: Matrix { cells: cells },
+    let here = step_effect(out, side, t, i);
+    if !here {
+        return false;
     }
+    keep(row, out, 1, side);
+    let both = join(out, row, 0, 1, side);
+    if !both {
+        return false;
+    }
+    keep(row, out, 0, side);
+    true
 }
 
-// Step i after the steps before it, of which a closing tells.
-fn step_more(t: Table, i: usize, before: Closing) -> Closing
-    requires { ⌜ Good t × (0 < i) × (i < t .steps) × (firstOf t (i - 1) ≡ answer (before .ok) (before .zone .cells)) ⌝ }
-    ensures { λ r. ⌜ firstOf t i ≡ answer (r .ok) (r .zone .cells) ⌝ }
+// The effect of one round of a table at place 0 of the row, or that it has no run.
+pub fn round_effect(row: &mut [u64], out: &mut [u64], t: Table, side: usize) -> bool
+    requires { ⌜ (length (now row) ≡ 4900) × (length (now out) ≡ 441) × Good t × Side side × UsesAll side t ⌝ }
+    ensures { λ r. ⌜ Tells (stepsOf t) r (whole side (effectAt (now (row .exit)) 0)) ⌝ }
 {
-    if !before.ok {
-        return before;
+    let first = step_effect(out, side, t, 0);
+    if !first {
+        return false;
     }
-    let here = step_effect(t, i);
-    if !here.ok {
-        return here;
-    }
-    let a = before.zone;
-    let b = here.zone;
-    join(a, b)
-}
-
-// The effect of one round of a table, or that it has no run.
-pub fn round_effect(t: Table) -> Closing
-    requires { ⌜ Good t ⌝ }
-    ensures { λ r. ⌜ roundOf t ≡ answer (r .ok) (r .zone .cells) ⌝ }
-{
-    let mut out = step_effect(t, 0);
+    keep(row, out, 0, side);
     let mut i: usize = 1;
     while i < t.steps {
-        out = step_more(t, i, out);
+        let more = step_more(row, out, t, i, side);
+        if !more {
+            return false;
+        }
         i += 1;
     }
-    out
+    true
 }

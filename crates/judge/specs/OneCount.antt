@@ -6,7 +6,7 @@ use Prim.Native.Nat.{ℕ}
 use Rattle.wire.specs.Reading.{readOf}
 use Rattle.rounds.specs.One.{rounds-answer-one}
 use Rattle.numbers.specs.Numbers.{countNumbers}
-use Rattle.numbers.specs.Answered.{answered}
+use Rattle.answers.specs.Answered.{answered}
 use Rattle.judge.specs.Room.{RoundsTold}
 
 pub rounds-told-one : (roomy : Bool) (bytes room a b : List ℕ) → RoundsTold roomy bytes room a → RoundsTold roomy bytes room b

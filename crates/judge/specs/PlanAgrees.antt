@@ -18,7 +18,7 @@ use Rattle.plan.specs.declared.Outcome.the-variants.{Found, Loop, Refused}
 use Rattle.asking.specs.declared.Admission.the-variants as admission
 use Rattle.plan.specs.Answer as plan
 use Rattle.numbers.specs.Numbers.{planNumbers}
-use Rattle.numbers.specs.Answered.{answered}
+use Rattle.answers.specs.Answered.{answered}
 use Rattle.judge.specs.Room.{PlanTold}
 use Rattle.judge.specs.OnePlan.{Agree, refused, meets}
 

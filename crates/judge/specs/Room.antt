@@ -11,7 +11,7 @@ use Rattle.plan.specs.declared.Outcome.{Outcome}
 use Rattle.plan.specs.Answer as plan
 use Rattle.demands.specs.Listed.{rowOf, rowRoom}
 use Rattle.numbers.specs.Numbers.{countNumbers, planNumbers}
-use Rattle.numbers.specs.Answered.{roomy, answered}
+use Rattle.answers.specs.Answered.{roomy, answered}
 
 -- the demands' row at exit, which is kept where the answer room is short
 unfoldable pub listedRow : List ℕ → List ℕ → ℕ → List ℤ → List ℤ

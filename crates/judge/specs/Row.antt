@@ -6,7 +6,7 @@ use Prim.Native.Nat.{ℕ, _≤_, _<_}
 use lib.IntN.{ℤ}
 use lib.ListN.{length}
 use Rattle.demands.specs.Listed.{rowOf, rowRoom}
-use Rattle.numbers.specs.Answered.{short, roomy-yes}
+use Rattle.answers.specs.Answered.{short, roomy-yes}
 use Rattle.judge.specs.Room.{listedRow}
 
 pub row-short : (room bytes : List ℕ) (k : ℕ) (row : List ℤ) → length room < 4 → row ≡ listedRow room bytes k row

@@ -1,17 +1,18 @@
 // The four questions, for a terminal to call from C, where a slice is a pointer and a length. An answer is four numbers, written
 // to the first places of a lent answer room; its other places keep their contents. An answer room of fewer than four places gives
 // false, and then no room changes. A refusal is 01's number, its place, 0, 0; the first number of every other answer is 0.
+use answers::put;
+use answers::read_numbers;
 use numbers::count_numbers;
 use numbers::demands_numbers;
 use numbers::plan_numbers;
-use numbers::put;
-use numbers::read_numbers;
 ghost use mathlib.Core.Path.{_≡_};
 ghost use Rattle.wire.specs.Reading.{readOf};
 ghost use Rattle.plan.specs.Answer.{rooms};
 ghost use Rattle.demands.specs.Listed.{listedOf, rowRoom};
-ghost use Rattle.numbers.specs.Numbers.{readNumbers, demandsNumbers};
-ghost use Rattle.numbers.specs.Answered.{roomy, answered};
+ghost use Rattle.answers.specs.Four.{readNumbers};
+ghost use Rattle.numbers.specs.Numbers.{demandsNumbers};
+ghost use Rattle.answers.specs.Answered.{roomy, answered};
 ghost use Rattle.judge.specs.Room.{listedRow, RoundsTold, PlanTold};
 
 // how many numbers an answer has

@@ -17,7 +17,8 @@ use Rattle.plan.specs.declared.Outcome.{Outcome}
 use Rattle.plan.specs.declared.Outcome.the-variants as outcome
 use Rattle.demands.specs.declared.Listed.{Listed}
 use Rattle.demands.specs.declared.Listed.the-variants as listed
-use Rattle.numbers.specs.Numbers.{four, refusedNumbers, readNumbers, countNumbers, planNumbers, demandsNumbers}
+use Rattle.answers.specs.Four.{four, refusedNumbers, readNumbers}
+use Rattle.numbers.specs.Numbers.{countNumbers, planNumbers, demandsNumbers}
 
 -- the faults in the order of 01's numbers, from 1
 abbrev faults : List Fault

@@ -1,28 +1,13 @@
--- The four numbers of an answer, for each of its cases. The first is 0, or 01's number of a refusal.
-use mathlib.Core.List.{List, [], _∷_}
+-- The four numbers of the answers to "rounds", "plan" and "demands", for each of their cases.
+use mathlib.Core.List.{List}
 use Prim.Native.Nat.{ℕ}
-use Rattle.table.specs.Refusal.{numberOf}
-use Rattle.table.specs.declared.Refusal.{Refusal}
-use Rattle.table.specs.declared.Read.{Read}
-use Rattle.table.specs.declared.Read.the-variants as read
+use Rattle.answers.specs.Four.{four, refusedNumbers}
 use Rattle.rounds.specs.declared.Count.{Count}
 use Rattle.rounds.specs.declared.Count.the-variants as count
 use Rattle.plan.specs.declared.Outcome.{Outcome}
 use Rattle.plan.specs.declared.Outcome.the-variants as outcome
 use Rattle.demands.specs.declared.Listed.{Listed}
 use Rattle.demands.specs.declared.Listed.the-variants as listed
-
-abbrev pub four : ℕ → ℕ → ℕ → ℕ → List ℕ
-four a b c d = a ∷ b ∷ c ∷ d ∷ []
-
--- refused: the number and the place
-abbrev pub refusedNumbers : Refusal → List ℕ
-refusedNumbers f = four (numberOf (f .fault)) (f .place) 0 0
-
--- read: n, L and the number of guards (01: bounds)
-abbrev pub readNumbers : Read → List ℕ
-readNumbers (read.Counted n L g) = four 0 n L g
-readNumbers (read.Refused f) = refusedNumbers f
 
 -- rounds: the count; or without end
 abbrev pub countNumbers : Count → List ℕ

@@ -7,6 +7,7 @@ pub mod Relaxed
 pub mod Invariant
 pub mod Pass
 pub mod Rises
+pub mod Onward
 pub mod Cycle
 pub mod Search
 pub mod Sweep

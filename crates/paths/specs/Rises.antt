@@ -16,7 +16,7 @@ use Rattle.paths.specs.Relaxed.{Relaxed, relaxed}
 abbrev pub Rises : State → State → Type 0
 Rises s s′ = (v : ℕ) → at (s .time) v ≤ at (s′ .time) v
 
-relaxed-rises : (c : Constraint) (q : ℕ) (s s′ : State) → Relaxed c q s s′ → Rises s s′
+pub relaxed-rises : (c : Constraint) (q : ℕ) (s s′ : State) → Relaxed c q s s′ → Rises s s′
 relaxed-rises c q s s′ (inl h) v = rw (h .1) (omega arith)
 relaxed-rises c q s s′ (inr r) v = go (ℕ-discrete v (c .from))
   where

@@ -24,11 +24,12 @@ use Rattle.plan.specs.Answer.{Rooms, Answered, admitRooms, askingOf, Mee
 use Rattle.constraints.specs.Sized.{Tabled, Sized, roundsOf}
 use Rattle.asking.specs.Admitted.{admit-held}
 use Rattle.asking.specs.Rounds.{clocksOf, cycleOf, roundsIn}
-use Rattle.plan.specs.Solve.{Roomy}
+use Rattle.solving.specs.Solve.{Roomy}
+use Rattle.plan.specs.Rows.{rowsOf}
 
 -- ---- all tests have held
 pub admit-sized : (t : Table) (k : ℕ) (r : Rooms) → Tabled t → admitRooms (t .clocks) (t .steps) k r ≡ admission.Accepted
-    → Sized t k × Roomy t k r
+    → Sized t k × Roomy (rowsOf t k) (r .times) (r .starts) (r .loop)
 admit-sized t k r g e =
     let h = admit-held _ _ _ _ _ _ e in (
       record { good = g .good; clocks = g .clocks; some = h .some; few = h .few },

@@ -14,11 +14,8 @@ use Rattle.runs.specs.Satisfies.{Satisfies, start-satisfies}
 use Rattle.runs.specs.RowSteps.{rising}
 use Rattle.runs.specs.Rows.{rowAt, row-now}
 use Rattle.runs.specs.RunReplay.{twin-satisfies}
+use Rattle.solving.specs.Solved.{Above}
 use Rattle.plan.specs.Asked.{Asked, asked-places}
-
--- the times x of moments 0 to K are not before 4001 ticks
-abbrev pub Above : ℕ → ℕ → (ℕ → ℕ) → Type 0
-Above P K x = (i : ℕ) → i ≤ K → 4001 * P ≤ x i
 
 -- x is the least solution of the demands of σ that is not below the start values: 4001 ticks for moments 0 to K, and 0 for
 -- the last resets before the start.

@@ -1,85 +1,153 @@
--- What the passes have found: the least solution above the start values, or a loop.
+-- What solving the rows of a table has found is the answer for k rounds of it.
+use mathlib.Core.Path.{_≡_, refl, sym, ap, subst, _∙_}
+use mathlib.Core.Bool.{true, false}
 use mathlib.Core.List.{List}
-use Prim.Native.Nat.{ℕ, _+_, _≤_, _<_}
+use Prim.Native.Nat.{ℕ, zero, suc, _+_, _*_, _-_, _≤_, _<_}
 use native.Mathlib.Omega.{arith}
-use native.Mathlib.Decide.{decLe}
 use lib.ListN.{length, take, length-take}
 use Rattle.table.specs.Step.{Step}
+use Rattle.table.specs.declared.Table.{Table}
 use Rattle.runs.specs.declared.Demand.{Demand}
-use Rattle.runs.specs.Demand.{Starts, demands}
+use Rattle.runs.specs.Demand.{anyStarts}
 use Rattle.runs.specs.Loop.{Loop}
-use Rattle.runs.specs.Satisfies.{Satisfies}
-use Rattle.paths.specs.Places.{at}
-use Rattle.paths.specs.Walk.{ring-few}
-use Rattle.paths.specs.Constraint.{Constraint}
-use Rattle.paths.specs.State.{State, passesOf}
-use Rattle.paths.specs.Pass.{Start}
-use Rattle.paths.specs.Cycle.{OnCycle}
-use Rattle.paths.specs.Code.{Wrote}
-use Rattle.paths.specs.Outcome.{outcome-least, outcome-wrote}
-use Rattle.plan.specs.Asked.{Asked, asked-proper}
-use Rattle.checks.specs.InParts.{allInParts, satisfies-parts, parts-fit}
-use Rattle.plan.specs.Earliest.{Above, Least}
+use Rattle.constraints.specs.Demands.{demandsOf}
+use Rattle.constraints.specs.Rounds.{length-rounds}
+use Rattle.constraints.specs.Sized.{Sized, partsOf, roundsOf}
+use Rattle.sides.specs.Covers.{covers-satisfies, covers-loop}
+use Rattle.sides.specs.Keys.{keysOf}
+use Rattle.last_resets.specs.Distance.{distancesOf}
+use Rattle.paths.specs.Places.{at, length-written, at-written, drop-written}
+use Rattle.paths.specs.Constraint.{NegativeCycle}
+use Rattle.checks.specs.InParts.{allInParts, satisfies-parts}
+use Rattle.readout.specs.LeastStart.{leastStart}
+use Rattle.relaxing.specs.Rows.{rows, sweep, constraintsOf, Sound}
+use Rattle.solving.specs.Solved.{LeastSolution, Plans, Cycles, Solved}
+use Rattle.solving.specs.declared.Solution.{Solution}
+use Rattle.solving.specs.declared.Solution.the-variants as solution
+use Rattle.solving.specs.Solve.{Roomy}
+use Rattle.plan.specs.declared.Outcome.{Outcome}
+use Rattle.plan.specs.declared.Outcome.the-variants as outcome
+use Rattle.plan.specs.Answer.{Rooms, rooms, momentsIn, startsIn, Planning, Refuted, Answered}
+use Rattle.plan.specs.Asked.{sized-asked}
+use Rattle.plan.specs.Earliest.{Least}
+use Rattle.plan.specs.Smallest.{momentsOf, startsOf, least-planned}
+use Rattle.plan.specs.Same.{planned-same}
 use Rattle.plan.specs.Refuted.{cycle-is-loop}
-use Rattle.relaxing.specs.Passes.{Begins, Ended}
-use Rattle.paths.specs.Rises.{passes-rise}
+use Rattle.plan.specs.Rows.{rowsOf, rows-cover, rows-proper, rows-sound}
 
--- the passes begin with s
-module _ (P n : ℕ) (σ : List Step) (D : Starts) (a : Asked n σ D) (s : State) (b : Begins P (length σ) n s) where
+-- the answer that a solution in so many parts is
+abbrev pub outcomeOf : ℕ → Solution → Outcome
+outcomeOf P solution.Least = outcome.Found P
+outcomeOf P (solution.Cycle m) = outcome.Loop m
+
+module _ (t : Table) (k : ℕ) (z : Sized t k) where
   abbrev K : ℕ
-  K = length σ
+  K = k * t .steps
 
-  abbrev N : ℕ
-  N = K + n + 1
+  abbrev n : ℕ
+  n = t .clocks
 
-  abbrev ds : List Demand
-  ds = demands n σ D
+  abbrev σ : List Step
+  σ = roundsOf t k
 
-  abbrev cs : List Constraint
-  cs = allInParts P ds
+  abbrev P : ℕ
+  P = partsOf t k
 
-  pub begins-start : Start N cs s
-  begins-start =
-      record { fits = parts-fit P (K + n) ds (asked-proper n σ D a); room = b .room; unstamped = b .unstamped }
+  abbrev es : List Demand
+  es = sweep (rowsOf t k)
 
-  module _ (s′ : State) (r : ℕ) (e : Ended N cs s s′ r) where
-    -- Where there is no cycle, the times are the least solution above the start values.
-    pub ended-least : N ≤ r → Least P n σ D (at (s′ .time))
-    ended-least l =
+  -- ---- the least solution
+  least : (x : ℕ → ℕ) → LeastSolution (rowsOf t k) x → Least P n σ anyStarts x
+  unfolding constraintsOf
+  least x h =
+      record {
+        solution = covers-satisfies (rows-cover t k z) P x (omega arith) .0 (satisfies-parts P x es .1 (h .solution));
+        above = λ i m. h .above i (omega (arith, length-rounds t k));
+        least = λ y s b v w.
+            h .least y (satisfies-parts P y es .0 (covers-satisfies (rows-cover t k z) P y (omega arith) .1 s))
+            (λ i m. b i (omega (arith, length-rounds t k))) v (omega (arith, length-rounds t k));
+      }
+
+  module _ (times starts room times′ starts′ room′ : List ℕ) (fit : Roomy (rowsOf t k) times starts room) where
+    -- It is the plan.
+    found : Plans (rowsOf t k) times starts room times′ starts′ room′
+        → Planning n σ (rooms times starts room) (rooms times′ starts′ room′) P
+    unfolding constraintsOf
+    found f =
         record {
-          solution = satisfies-parts P (at (s′ .time)) ds .1 (e .solved l);
-          above = above;
-          least = least;
+          parts = omega (arith, length-rounds t k);
+          planned =
+              planned-same P n σ anyStarts (sized-asked t k z)
+              (momentsOf (f .x)) (startsOf P es (length σ) (f .x)) (momentsIn times′) (startsIn starts′)
+              moments smallest
+              (least-planned P n σ anyStarts (omega arith) (sized-asked t k z) es (rows-cover t k z) (f .x) (least (f .x) (f .least)));
+          times = record {
+            size = ap length (f .times) ∙ length-written _ K times (fit .times);
+            rest = rw (length-rounds t k) (rw (f .times) (drop-written _ K times));
+          };
+          starts = record {
+            size = ap length (f .starts) ∙ length-written _ n starts (fit .starts);
+            rest = rw (f .starts) (drop-written _ n starts);
+          };
+          loop = f .loop;
         }
       where
-        above : Above P K (at (s′ .time))
-        above i m =
-            rw (e .after) (omega (arith, b .now i m, passes-rise N cs (e .passes) s (begins-start .fits) (b .room) i))
+        moments : (i : ℕ) → i ≤ length σ → momentsIn times′ i ≡ momentsOf (f .x) i
+        moments zero m = omega arith
+        moments (suc i) m =
+            ap (λ (y : List ℕ). at y i) (f .times)
+            ∙ at-written _ K times i (omega (arith, length-rounds t k))
+            ∙ ap (λ (v : ℕ). f .x v - f .x 0) (omega arith)
 
-        least : (y : ℕ → ℕ) → Satisfies P y ds → Above P K y → (v : ℕ) → v < N → at (s′ .time) v ≤ y v
-        least y h u v w =
-            rw (e .after)
-            (outcome-least N cs s begins-start (e .passes) y (satisfies-parts P y ds .0 h)
-            (λ m q. below m q (decLe m K)) v w)
-          where
-            below : (m : ℕ) → m < N → Dec (m ≤ K) → at (s .time) m ≤ y m
-            below m q (yes c) = omega (arith, b .now m c, u m c)
-            below m q (no c) = omega (arith, b .past m (omega arith) q)
+        smallest : (j : ℕ) → 0 < j → j ≤ n → startsIn starts′ j ≡ startsOf P es (length σ) (f .x) j
+        smallest j p m =
+            ap (λ (y : List ℕ). at y (j - 1)) (f .starts)
+            ∙ at-written _ n starts (j - 1) (omega arith)
+            ∙ ap (leastStart (f .x) (allInParts P es)) (omega (arith, length-rounds t k))
 
-    -- The vertices of a cycle, written out, are a loop.
-    pub ended-loop : N ≤ P → r < N → (out out′ : List ℕ) (m : ℕ) → Wrote (s′ .parent) r out out′ m
-        → Loop ds (take m out′)
-    ended-loop few l out out′ m w =
-        cycle-is-loop P (K + n) ds (take m out′) (asked-proper n σ D a)
-        (outcome-wrote N cs s begins-start (e .passes) r m out out′ (on (e .cycle l)) (wrote w))
-        (omega (arith, short, ring-few (at (s′ .parent)) N r m (w .ring) (e .cycle l .inside)))
-      where
-        on : OnCycle N (s′ .parent) (s′ .stamp) r
-            → OnCycle N (passesOf cs (e .passes) s .parent) (passesOf cs (e .passes) s .stamp) r
-        on o = rw (e .after) at o
+    -- ---- a cycle is a loop
+    looped : (m : ℕ) → Cycles (rowsOf t k) times starts room times′ starts′ room′ m
+        → Refuted n σ (rooms times starts room) (rooms times′ starts′ room′) m
+    unfolding constraintsOf
+    looped m c =
+        record {
+          loop =
+              covers-loop (rows-cover t k z) (take m room′)
+              (cycle-is-loop P (K + n) es (take m room′) (rows-proper t k z) (c .cycle) (omega (arith, length-take m room′, c .short)));
+          few = c .few;
+          rest = record { size = c .size; rest = c .rest };
+          times = c .times;
+          starts = c .starts;
+        }
 
-        wrote : Wrote (s′ .parent) r out out′ m → Wrote (passesOf cs (e .passes) s .parent) r out out′ m
-        wrote h = rw (e .after) at h
+    -- What is found is the answer.
+    pub solved-answered : (s : Solution) → Solved (rowsOf t k) times starts room times′ starts′ room′ s
+        → Answered n σ (rooms times starts room) (rooms times′ starts′ room′) (outcomeOf P s)
+    solved-answered solution.Least f = found f
+    solved-answered (solution.Cycle m) f = looped m f
 
-        short : length (take m out′) ≤ m
-        short = omega (arith, length-take m out′)
+-- ---- the rows as they were computed
+module _ (t : Table) (k : ℕ) (z : Sized t k) (low up far : List ℕ) (e : low ≡ keysOf false t) (f : up ≡ keysOf true t)
+    (g : far ≡ distancesOf t) where
+  same : rowsOf t k ≡ rows low up far (t .steps) (t .clocks) (k * t .steps)
+  same =
+      sym (ap (λ l. rows l up far (t .steps) (t .clocks) (k * t .steps)) e
+      ∙ ap (λ l. rows (keysOf false t) l far (t .steps) (t .clocks) (k * t .steps)) f
+      ∙ ap (λ l. rows (keysOf false t) (keysOf true t) l (t .steps) (t .clocks) (k * t .steps)) g)
+
+  module _ (times starts room : List ℕ) (fit : Roomy (rowsOf t k) times starts room) where
+    -- can be solved,
+    pub rows-ready : Sound (rows low up far (t .steps) (t .clocks) (k * t .steps))
+        × Roomy (rows low up far (t .steps) (t .clocks) (k * t .steps)) times starts room
+    rows-ready = (subst Sound same (rows-sound t k z), subst (λ R. Roomy R times starts room) same fit)
+
+    -- and what is found is the answer.
+    pub rows-answered : (times′ starts′ room′ : List ℕ) (s : Solution) (P : ℕ) (o : Outcome)
+        → Solved (rows low up far (t .steps) (t .clocks) (k * t .steps)) times starts room times′ starts′ room′ s
+        → P ≡ partsOf t k → o ≡ outcomeOf P s
+        → Answered (t .clocks) (roundsOf t k) (rooms times starts room) (rooms times′ starts′ room′) o
+    rows-answered times′ starts′ room′ s P o h a b =
+        subst (Answered (t .clocks) (roundsOf t k) (rooms times starts room) (rooms times′ starts′ room′))
+        (sym (b ∙ ap (λ q. outcomeOf q s) a))
+        (solved-answered t k z times starts room times′ starts′ room′ fit s
+        (subst (λ R. Solved R times starts room times′ starts′ room′ s) (sym same) h))

@@ -10,8 +10,7 @@ pub mod Same
 -- a negative cycle is a loop
 pub mod Refuted
 pub mod Decides
--- what the passes have found, and the answer
+-- the rows of a table, what solving them has found, and the answer
+pub mod Rows
 pub mod Found
-pub mod Solve
 pub mod Admit
-pub mod Trimmed

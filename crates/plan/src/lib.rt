@@ -2,19 +2,19 @@
 use asking::Admission;
 use asking::admit;
 use decode::parse;
-use paths::fill;
-use paths::write_cycle;
-use readout::write_moments;
-use readout::write_starts;
-use relaxing::passes;
+use last_resets::distances;
+use sides::keys;
+use solving::Solution;
+use spaces::solve_here;
 use table::Read;
 use table::Refusal;
 use table::Table;
-use trim::trim;
-ghost use Rattle.paths.specs.State.{state};
+ghost use mathlib.Core.Path.{_≡_};
 ghost use Rattle.constraints.specs.Sized.{Sized, Tabled, roundsOf};
+ghost use Rattle.solving.specs.Solve.{Roomy};
 ghost use Rattle.plan.specs.Answer.{rooms, Answered, admitRooms, Meets, Answers};
-ghost use Rattle.plan.specs.Solve.{Roomy, Spacious};
+ghost use Rattle.plan.specs.Rows.{rowsOf};
+ghost use Rattle.plan.specs.Found.{outcomeOf};
 
 // The answer to the question "plan for k": the parts to a tick; or the length of a loop; or why it is refused.
 pub enum Outcome {
@@ -23,70 +23,48 @@ pub enum Outcome {
     Refused(Refusal),
 }
 
-// The plan of k rounds, or a loop. The last four slices are space to work in.
-fn solve(
+// The answer that a solution in so many parts is.
+fn told(parts: u64, found: Solution) -> Outcome
+    ensures { λ a. ⌜ a ≡ outcomeOf parts found ⌝ }
+{
+    match found {
+        Solution::Least => Outcome::Found(parts),
+        Solution::Cycle(length) => Outcome::Loop(length),
+    }
+}
+
+// The plan of k rounds, or a loop.
+fn plan_rounds(
     t: Table,
     k: usize,
     times: &mut [u64],
     starts: &mut [u64],
     room: &mut [u64],
-    time: &mut [u64],
-    parent: &mut [u64],
-    stamp: &mut [u64],
-    marks: &mut [u64],
 ) -> Outcome
-    requires { ⌜ Sized t k × Roomy t k (rooms (now times) (now starts) (now room))
-        × Spacious t k (state (now time) (now parent) (now stamp)) (now marks) ⌝ }
+    requires { ⌜ Sized t k × Roomy (rowsOf t k) (now times) (now starts) (now room) ⌝ }
     ensures { λ a. ⌜ Answered (t .clocks) (roundsOf t k)
         (rooms (now (times .entry)) (now (starts .entry)) (now (room .entry)))
         (rooms (now (times .exit)) (now (starts .exit)) (now (room .exit))) a ⌝ }
 {
     let total = k * t.steps;
-    let n = total + t.clocks + 1;
-    let parts = n as u64;
-    fill(time, n, 0);
-    fill(time, total + 1, 4001 * parts);
-    fill(stamp, n, 0);
-    let u = passes(t, k, time, parent, stamp, marks);
-    if u < n {
-        return Outcome::Loop(write_cycle(parent, u, room));
-    }
-    write_moments(time, total, times);
-    write_starts(t, k, time, starts);
-    Outcome::Found(parts)
-}
-
-// The same, in space of its own: there are at most 1,031 moments.
-fn solve_here(
-    t: Table,
-    k: usize,
-    times: &mut [u64],
-    starts: &mut [u64],
-    room: &mut [u64],
-) -> Outcome
-    requires { ⌜ Sized t k × Roomy t k (rooms (now times) (now starts) (now room)) ⌝ }
-    ensures { λ a. ⌜ Answered (t .clocks) (roundsOf t k)
-        (rooms (now (times .entry)) (now (starts .entry)) (now (room .entry)))
-        (rooms (now (times .exit)) (now (starts .exit)) (now (room .exit))) a ⌝ }
-{
-    let mut time: [u64; 1031] = [0; 1031];
-    let mut parent: [u64; 1031] = [0; 1031];
-    let mut stamp: [u64; 1031] = [0; 1031];
-    let mut marks: [u64; 1031] = [0; 1031];
-    solve(
-        t,
-        k,
+    let low = keys(t, false);
+    let up = keys(t, true);
+    let far = distances(t);
+    let found = solve_here(
+        &low,
+        &up,
+        &far,
+        t.steps,
+        t.clocks,
+        total,
         times,
         starts,
         room,
-        &mut time,
-        &mut parent,
-        &mut stamp,
-        &mut marks,
-    )
+    );
+    told((total + t.clocks + 1) as u64, found)
 }
 
-// The question, after the table. Only the tightest guards of each step are checked.
+// The question, after the table.
 fn plan_table(t: Table, k: u64, times: &mut [u64], starts: &mut [u64], room: &mut [u64]) -> Outcome
     requires { ⌜ Tabled t ⌝ }
     ensures { λ a. ⌜ Meets
@@ -98,7 +76,7 @@ fn plan_table(t: Table, k: u64, times: &mut [u64], starts: &mut [u64], room: &mu
     let admission = admit(t.clocks, t.steps, k, times.len(), starts.len(), room.len());
     match admission {
         Admission::Refused(refusal) => Outcome::Refused(refusal),
-        Admission::Accepted => solve_here(trim(t), k as usize, times, starts, room),
+        Admission::Accepted => plan_rounds(t, k as usize, times, starts, room),
     }
 }
 

@@ -1,6 +1,7 @@
 -- The lines of a plan, as bytes.
 use mathlib.Core.List.{List, [], _∷_, _++_}
-use Prim.Native.Nat.{ℕ, zero, suc, _+_, _/_, _%_}
+use Prim.Native.Nat.{ℕ, zero, suc, _+_, _-_, _/_, _%_}
+use lib.ListN.{getD}
 use Rattle.lines.specs.Line.{line1, line2, line3}
 
 -- "parts "
@@ -34,6 +35,10 @@ startLine j s = line2 startWord j atWord s
 -- "round R step S at M": a step's round, its number in the round and its moment, in parts
 abbrev pub stepLine : ℕ → ℕ → ℕ → List ℕ
 stepLine round step m = line3 roundWord round stepWord step atWord m
+
+-- number j, from 1, of a room
+abbrev pub numberIn : List ℕ → ℕ → ℕ
+numberIn l j = getD l (j - 1) 0
 
 -- the starts s of clocks 1 to n, in this order
 unfoldable pub startLines : (ℕ → ℕ) → ℕ → List ℕ

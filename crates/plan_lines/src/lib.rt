@@ -1,9 +1,8 @@
 // A plan's lines into a lent buffer: the parts to a tick, the clocks' starts and the steps' moments.
 ghost use Prim.Native.Nat.{_+_, _*_, _≤_};
 ghost use lib.ListN.{length};
-ghost use Rattle.plan.specs.Answer.{momentsIn, startsIn};
 ghost use Rattle.text.specs.Over.{Written};
-ghost use Rattle.plan_lines.specs.PlanLines.{startLine, stepLine, startLines, stepLines, planLines};
+ghost use Rattle.plan_lines.specs.PlanLines.{numberIn, startLine, stepLine, startLines, stepLines, planLines};
 
 // The line of a clock's start.
 fn put_start(out: &mut [u8], at: usize, clock: usize, start: u64) -> usize
@@ -17,7 +16,7 @@ fn put_start(out: &mut [u8], at: usize, clock: usize, start: u64) -> usize
 // The lines of the starts of clocks 1 to n.
 fn put_starts(out: &mut [u8], at: usize, starts: &[u64], n: usize) -> usize
     requires { ⌜ (n ≤ length (now starts)) × (at + 51 * n ≤ length (now out)) ⌝ }
-    ensures { λ r. ⌜ Written (now (out .entry)) at (startLines (startsIn (now (starts .entry))) n) (now (out .exit)) r ⌝ }
+    ensures { λ r. ⌜ Written (now (out .entry)) at (startLines (numberIn (now (starts .entry))) n) (now (out .exit)) r ⌝ }
     ensures { λ r. ⌜ r ≤ at + 51 * n ⌝ }
 {
     let mut next = at;
@@ -50,7 +49,7 @@ fn put_step(out: &mut [u8], at: usize, round: usize, step: usize, moment: u64) -
 // The lines of the first moments, `total` of them, when a round has `steps` steps.
 fn put_steps(out: &mut [u8], at: usize, times: &[u64], steps: usize, total: usize) -> usize
     requires { ⌜ (1 ≤ steps) × (total ≤ length (now times)) × (at + 77 * total ≤ length (now out)) ⌝ }
-    ensures { λ r. ⌜ Written (now (out .entry)) at (stepLines steps (momentsIn (now (times .entry))) total)
+    ensures { λ r. ⌜ Written (now (out .entry)) at (stepLines steps (numberIn (now (times .entry))) total)
         (now (out .exit)) r ⌝ }
     ensures { λ r. ⌜ r ≤ at + 77 * total ⌝ }
 {
@@ -77,7 +76,7 @@ pub fn put_plan(
     requires { ⌜ (clocks ≤ 6) × (clocks ≤ length (now starts)) × (1 ≤ steps) × (total ≤ 32) × (total ≤ length (now times))
         × (at + 2797 ≤ length (now out)) ⌝ }
     ensures { λ r. ⌜ Written (now (out .entry)) at
-        (planLines parts clocks steps total (momentsIn (now (times .entry))) (startsIn (now (starts .entry))))
+        (planLines parts clocks steps total (numberIn (now (times .entry))) (numberIn (now (starts .entry))))
         (now (out .exit)) r ⌝ }
     ensures { λ r. ⌜ r ≤ at + 2797 ⌝ }
 {

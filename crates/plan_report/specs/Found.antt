@@ -1,10 +1,10 @@
 -- The plan is found, and its lines are written.
-use mathlib.Core.Path.{_≡_, _∙_, ap, subst}
+use mathlib.Core.Path.{_≡_, refl, _∙_, ap, subst}
 use mathlib.Core.List.{List}
-use Prim.Native.Nat.{ℕ, _+_, _*_, _≤_}
+use Prim.Native.Nat.{ℕ, zero, suc, _+_, _-_, _*_, _≤_}
 use native.Mathlib.Omega.{arith}
 use native.Mathlib.Nat.{mul-le-mul}
-use lib.ListN.{length}
+use lib.ListN.{length, getD}
 use Rattle.table.specs.declared.Refusal.{Refusal}
 use Rattle.text.specs.Over.{Written, written-as}
 use Rattle.asking.specs.Rounds.{clocksOf, roundsIn}
@@ -17,7 +17,8 @@ use Rattle.plan.specs.Planned.{Planned}
 use Rattle.plan.specs.Answer.{Rooms, momentsIn, startsIn, Answered, admitRooms, Meets, Answers}
 use Rattle.asking.specs.Admitted.{admit-all}
 use Rattle.plan.specs.Decides.{refuted-none}
-use Rattle.plan_lines.specs.PlanLines.{planLines}
+use Rattle.plan_lines.specs.PlanLines.{numberIn, planLines}
+use Rattle.plan_lines.specs.Same.{SameTo, plan-lines-same}
 use Rattle.plan_report.specs.Accepted.{Plannable}
 
 -- t and s are the plan, in kL + n + 1 parts to a tick, of k rounds of the table that the bytes write down
@@ -79,10 +80,15 @@ module _ (bytes : List ℕ) (n L k : ℕ) (p : Plannable bytes n L k) where
     pub plan-not-refused : (f : Refusal) → a ≡ outcome.Refused f → ⊥
     plan-not-refused f e = subst (Holds bytes n L k r′) e plan-holds
 
+-- the moments in a room are its numbers
+in-room : (n : ℕ) (times : List ℕ) → SameTo n (numberIn times) (momentsIn times)
+in-room n times zero p l = absurd (omega arith)
+in-room n times (suc i) p l = let less : suc i - 1 ≡ i = omega arith in ap (λ (j : ℕ). getD times j 0) less
+
 -- the plan in the rooms is written
 pub plan-writes : (bytes : List ℕ) (n L k : ℕ) (r : Rooms) (P : ℕ) (a : Outcome) → Holds bytes n L k r a
     → a ≡ outcome.Found P → {before after : List ℕ} {at end : ℕ}
-    → Written before at (planLines P n L (k * L) (momentsIn (r .times)) (startsIn (r .starts))) after end
+    → Written before at (planLines P n L (k * L) (numberIn (r .times)) (numberIn (r .starts))) after end
     → WritesPlan bytes n L k before at after end
 plan-writes bytes n L k r P a h e w =
     record {
@@ -90,7 +96,10 @@ plan-writes bytes n L k r P a h e w =
       starts = startsIn (r .starts);
       planned = holds .1;
       written =
-          written-as (ap (λ (x : ℕ). planLines x n L (k * L) (momentsIn (r .times)) (startsIn (r .starts))) (holds .0)) w;
+          written-as
+          (plan-lines-same P n L (k * L) (numberIn (r .times)) (momentsIn (r .times)) _ _ (in-room (k * L) (r .times)) (λ j p l. refl)
+          ∙ ap (λ (x : ℕ). planLines x n L (k * L) (momentsIn (r .times)) (startsIn (r .starts))) (holds .0))
+          w;
     }
   where
     holds : Holds bytes n L k r (outcome.Found P)

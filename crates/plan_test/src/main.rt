@@ -164,8 +164,7 @@ fn widest(k: u64) {
     show(&bytes, k, LARGE, 1020);
 }
 
-// Sixteen steps within a tick of each other, of which the last comes 1000 ticks after the first: the loop goes back step by step,
-// and is found in pass 16 of 20.
+// Sixteen steps within a tick of each other, of which the last comes 1000 ticks after the first: the loop goes back step by step.
 fn chain() {
     let mut bytes = [0u8; 138];
     fill(

@@ -9,8 +9,9 @@ use lib.ListN.{drop}
 use Rattle.wire.specs.Reading.{readOf}
 use Rattle.plan.specs.Answer.{Rooms}
 use Rattle.demands.specs.Listed.{listedOf, rowRoom, rowOf}
-use Rattle.numbers.specs.Numbers.{readNumbers, countNumbers, planNumbers, demandsNumbers}
-use Rattle.numbers.specs.Answered.{roomy, answered}
+use Rattle.answers.specs.Four.{readNumbers}
+use Rattle.numbers.specs.Numbers.{countNumbers, planNumbers, demandsNumbers}
+use Rattle.answers.specs.Answered.{roomy, answered}
 use Rattle.judge.specs.Room.{listedRow, RoundsTold, PlanTold}
 use Rattle.promises.specs.Told.{ReadSays, RoundsSays, PlanSays, DemandsSays}
 

@@ -18,7 +18,7 @@ use Rattle.asking.specs.Admission.{inRange}
 use Rattle.asking.specs.Rounds.{demandsIn}
 use Rattle.cells.specs.Lines.{cells, over}
 use Rattle.plan.specs.Answer.{Rooms}
-use Rattle.numbers.specs.Numbers.{four, refusedNumbers}
+use Rattle.answers.specs.Four.{four, refusedNumbers}
 use Rattle.promises.specs.Told.{NotRefused, ReadSays, RoundsSays, PlanSays, DemandsSays}
 
 -- the number of a row of 01's table, unless its test holds

@@ -36,7 +36,8 @@ use Rattle.demands.specs.declared.Listed.{Listed}
 use Rattle.demands.specs.declared.Listed.the-variants as listed
 use Rattle.demands.specs.Listed.{need, answerOf, listedOf, unlessRefused, rowRoom, rowOf}
 use Rattle.cells.specs.Lines.{cells, over}
-use Rattle.numbers.specs.Numbers.{four, readNumbers, countNumbers, planNumbers, demandsNumbers}
+use Rattle.answers.specs.Four.{four, readNumbers}
+use Rattle.numbers.specs.Numbers.{countNumbers, planNumbers, demandsNumbers}
 use Rattle.promises.specs.First.{row, planRow, demandsRow, Refuses, AcceptedBy, RefusedBy, First}
 use Rattle.promises.specs.Rows.{number-some, Told, fails, passes, told-test, refuses-fault, refuses-none}
 use Rattle.promises.specs.Reader.{reader-number}

@@ -12,12 +12,13 @@ use Rattle.table.specs.declared.Fault.the-variants as fault
 use Rattle.table.specs.declared.Refusal.{Refusal}
 use Rattle.table.specs.declared.Read.{Read}
 use Rattle.table.specs.declared.Read.the-variants as read
-use Rattle.wire.specs.declared.Tally.{Tally}
-use Rattle.wire.specs.declared.Verdict.{Verdict}
-use Rattle.wire.specs.declared.Verdict.the-variants.{Refused, Next, Last}
-use Rattle.wire.specs.Records.{Record, bodySize, records}
-use Rattle.wire.specs.Reading.{need, within, agree, byte, constantOf}
-use Rattle.wire.specs.Reading.{headed, guarded, cleared, finished, ended, wholeOf, judgeOf, tail, check, start, readOf}
+use Rattle.records.specs.declared.Tally.{Tally}
+use Rattle.records.specs.declared.Verdict.{Verdict}
+use Rattle.records.specs.declared.Verdict.the-variants.{Refused, Next, Last}
+use Rattle.records.specs.Rules.{bodySize, need, within, headed, guarded, cleared, finished, ended}
+use Rattle.wire.specs.Records.{Record, records}
+use Rattle.wire.specs.Reading.{agree, byte, constantOf}
+use Rattle.wire.specs.Reading.{wholeOf, judgeOf, tail, check, start, readOf}
 
 -- a verdict, and an answer, that is no refusal or one of these numbers
 record FewIn (v : Verdict) : Type 0 where

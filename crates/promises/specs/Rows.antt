@@ -9,7 +9,7 @@ use Rattle.table.specs.Refusal.{numberOf}
 use Rattle.table.specs.declared.Fault.{Fault}
 use Rattle.table.specs.declared.Fault.the-variants as fault
 use Rattle.table.specs.declared.Refusal.{Refusal}
-use Rattle.numbers.specs.Numbers.{four, refusedNumbers}
+use Rattle.answers.specs.Four.{four, refusedNumbers}
 use Rattle.promises.specs.First.{row, Refuses}
 
 -- no refusal has the number 0

@@ -16,7 +16,8 @@ use Rattle.rounds.specs.Answer as rounds
 use Rattle.plan.specs.declared.Outcome.{Outcome}
 use Rattle.plan.specs.Answer as plan
 use Rattle.demands.specs.Listed.{listedOf, rowRoom, rowOf}
-use Rattle.numbers.specs.Numbers.{readNumbers, countNumbers, planNumbers, demandsNumbers}
+use Rattle.answers.specs.Four.{readNumbers}
+use Rattle.numbers.specs.Numbers.{countNumbers, planNumbers, demandsNumbers}
 
 -- The bytes are a table with n clocks, L steps and g guards.
 pub record IsTable (bytes : List ℕ) (n L g : ℕ) : Type 0 where

@@ -2,7 +2,7 @@
 use mathlib.Core.Path.{_≡_, refl, sym, ap, _∙_}
 use mathlib.Core.Logic.{_⊎_, inl, inr, _≢_}
 use mathlib.Core.Bool.{Bool, true, false, cond}
-use mathlib.Core.List.{List, [], _∷_, List·Memᴰ, List·Memᴰ·head, List·Memᴰ·tail}
+use mathlib.Core.List.{List, [], _∷_, _++_, List·Memᴰ, List·Memᴰ·head, List·Memᴰ·tail}
 use Prim.Native.Nat.{ℕ, _+_, _-_, _≤_, max}
 use native.Mathlib.Omega.{arith}
 use lib.Dec.{eqb}
@@ -75,3 +75,23 @@ module _ (x : ℕ → ℕ) (v : ℕ) where
       go : Cases c r → raised x v c r ≤ b
       go (inl e) = omega (arith, e .1, h c (List·Memᴰ·head refl) (e .0))
       go (inr e) = omega (arith, e .1)
+
+  -- ---- one list after the other, and constraints that ask nothing of this clock
+  pub start-append : (cs ds : List Constraint) (r : ℕ) → startFrom x v (cs ++ ds) r ≡ startFrom x v ds (startFrom x v cs r)
+  unfolding startFrom
+  start-append [] ds r = refl
+  start-append (c ∷ cs) ds r = start-append cs ds (raised x v c r)
+
+  pub raised-none : (c : Constraint) (r : ℕ) → (c .to ≡ v → lag x c ≡ 0) → raised x v c r ≡ r
+  raised-none c r h = go (raised-cases c r)
+    where
+      go : Cases c r → raised x v c r ≡ r
+      go (inl e) = omega (arith, e .1, h (e .0))
+      go (inr e) = e .1
+
+  pub start-none : (cs : List Constraint) (r : ℕ) → ((c : Constraint) → List·Memᴰ c cs → c .to ≡ v → lag x c ≡ 0)
+      → startFrom x v cs r ≡ r
+  unfolding startFrom
+  start-none [] r h = refl
+  start-none (c ∷ cs) r h =
+      start-none cs (raised x v c r) (λ d m. h d (List·Memᴰ·tail m)) ∙ raised-none c r (h c (List·Memᴰ·head refl))

@@ -1,6 +1,4 @@
 -- the smallest starts
 pub mod LeastStart
-pub mod Lift
-pub mod Unasked
-pub mod PlaceLifts
-pub mod Lifting
+pub mod OneClock
+pub mod Starting

@@ -1,22 +1,19 @@
 // What a solution of the constraints of k rounds says: the moments, and the smallest starts for them.
-use constraints::Cursor;
 use constraints::bit_of;
-use constraints::fresh;
-use constraints::guard_demand;
-use constraints::onward;
-use paths::fill;
-use runs::Demand;
-use table::Guard;
-use table::Table;
+use constraints::following;
+use last_resets::last_reset;
+use sides::NONE;
+use sweeps::lower_demand;
 ghost use mathlib.Core.Path.{_≡_};
+ghost use mathlib.Core.Bool.{false};
 ghost use Prim.Native.Nat.{ℕ, _+_, _-_, _≤_, _<_, max};
-ghost use lib.Dec.{ltb};
 ghost use lib.ListN.{length};
-ghost use Rattle.constraints.specs.Onward.{asked};
+ghost use Rattle.sides.specs.Tight.{keyDemands};
+ghost use Rattle.last_resets.specs.Distance.{lastOf};
+ghost use Rattle.sweeps.specs.Order.{forthOf};
 ghost use Rattle.paths.specs.Places.{at, written};
-ghost use Rattle.checks.specs.InParts.{inParts, allInParts};
-ghost use Rattle.readout.specs.Lift.{liftOf, liftsOf, startAt, Liftable, Startable};
-ghost use Rattle.readout.specs.PlaceLifts.{PlaceLiftable};
+ghost use Rattle.readout.specs.OneClock.{raisedBy};
+ghost use Rattle.readout.specs.Starting.{Raisable, Startable, Rowed, startAt};
 
 // The larger of two numbers.
 fn larger(a: u64, b: u64) -> u64
@@ -32,73 +29,79 @@ fn over(a: u64, b: u64) -> u64
     if a < b { 0 } else { a - b }
 }
 
-// Raises the start of a clock to what a demand to its last reset before the start asks.
-fn lift(total: usize, parts: u64, d: Demand, time: &[u64], starts: &mut [u64])
-    requires { ⌜ Liftable total parts d (now time) (now starts) ⌝ }
-    ensures { λ _. ⌜ now (starts .exit) ≡ liftOf total (at (now (time .entry))) (inParts parts d) (now (starts .entry)) ⌝ }
-{
-    if d.to <= total {
-        return;
-    }
-    let asked = time[0] + (d.down * parts + bit_of(d.strict));
-    let from = d.from;
-    let given = time[from] + d.up * parts;
-    let j = d.to - (total + 1);
-    starts[j] = larger(starts[j], over(asked, given));
-}
-
-// The same of the demands at a place. Only the lower side of a guard asks something of a start: its only demand, or its second.
-fn lift_place(
+// The start of clock j, raised to what the key of its guard from below at step i asks, if it was not reset since the start.
+fn raise(
+    key: u64,
+    distance: usize,
+    i: usize,
+    j: usize,
     total: usize,
     parts: u64,
-    here: Cursor,
-    end: usize,
-    g: Guard,
-    z: usize,
+    time: &[u64],
+    start: u64,
+) -> u64
+    requires { ⌜ Raisable i j total parts (now time) ⌝ }
+    ensures { λ r. ⌜ r ≡ raisedBy parts total (at (now (time .entry))) j
+        (keyDemands false key (lastOf distance total i j) (i + 1)) start ⌝ }
+{
+    if NONE <= key {
+        return start;
+    }
+    let z = last_reset(distance, total, i, j);
+    if z <= total {
+        return start;
+    }
+    let d = lower_demand(key, z, i + 1);
+    let gain = d.down * parts + bit_of(d.strict);
+    larger(start, over(time[0] + gain, time[i + 1]))
+}
+
+// The smallest start of clock j: the largest that a step asks. Step i is step s of its round.
+fn start_of(
+    low: &[u64],
+    far: &[usize],
+    steps: usize,
+    clocks: usize,
+    total: usize,
+    parts: u64,
+    j: usize,
+    time: &[u64],
+) -> u64
+    requires { ⌜ Startable (now low) (now far) steps clocks total parts j (now time) ⌝ }
+    ensures { λ r. ⌜ r ≡ raisedBy parts total (at (now (time .entry))) j
+        (forthOf (now (low .entry)) (now (far .entry)) steps clocks total 0 total) 0 ⌝ }
+{
+    let mut start: u64 = 0;
+    let mut i: usize = 0;
+    let mut s: usize = 0;
+    while i < total {
+        let at = 7 * s + j;
+        start = raise(low[at], far[at], i, j, total, parts, time, start);
+        s = following(s, steps);
+        i += 1;
+    }
+    start
+}
+
+// Writes the smallest starts for the moments of a solution to the first places.
+pub fn write_starts(
+    low: &[u64],
+    far: &[usize],
+    steps: usize,
+    clocks: usize,
+    total: usize,
     time: &[u64],
     starts: &mut [u64],
 )
-    requires { ⌜ PlaceLiftable total parts here end g z (now time) (now starts) ⌝ }
-    ensures { λ _. ⌜ now (starts .exit) ≡ liftsOf total (at (now (time .entry)))
-        (allInParts parts (asked (here .begun) (ltb (here .guard) end) (here .past) g z)) (now (starts .entry)) ⌝ }
+    requires { ⌜ Rowed (now low) (now far) steps clocks total (now time) × (clocks ≤ length (now starts)) ⌝ }
+    ensures { λ _. ⌜ now (starts .exit)
+        ≡ written (startAt (now (low .entry)) (now (far .entry)) steps clocks total (now (time .entry))) clocks (now (starts .entry)) ⌝ }
 {
-    if !here.begun {
-        return;
-    }
-    if end <= here.guard {
-        return;
-    }
-    let relation = g.relation;
-    let d = guard_demand(relation, g.constant, z, here.past + 1, true);
-    lift(total, parts, d, time, starts);
-}
-
-// Writes the smallest starts for the moments of a solution to the first places, from place to place as for the checks.
-pub fn write_starts(t: Table, k: usize, time: &[u64], starts: &mut [u64])
-    requires { ⌜ Startable t k (now time) (now starts) ⌝ }
-    ensures { λ _. ⌜ now (starts .exit) ≡ written (startAt t k (now (time .entry))) (t .clocks) (now (starts .entry)) ⌝ }
-{
-    let ends = t.ends;
-    let flags = t.resets;
-    let total = k * t.steps;
-    let parts = (total + t.clocks + 1) as u64;
-    fill(starts, t.clocks, 0);
-    let mut resets = fresh(total);
-    let mut here = Cursor {
-        past: 0,
-        step: 0,
-        guard: 0,
-        begun: false,
-    };
-    while here.past < total {
-        let place = here.guard % 64;
-        let guard = t.guards[place];
-        let clock = guard.clock % 7;
-        let step = here.step;
-        let z = resets[clock];
-        let end = ends[step + 1];
-        lift_place(total, parts, here, end, guard, z, time, starts);
-        here = onward(&ends, &flags, t.steps, here, &mut resets);
+    let parts = (total + clocks + 1) as u64;
+    let mut j: usize = 0;
+    while j < clocks {
+        starts[j] = start_of(low, far, steps, clocks, total, parts, j + 1, time);
+        j += 1;
     }
 }
 

@@ -1,4 +1,4 @@
--- Pass after pass, until one raises nothing or there is a cycle of parents.
+-- Pass after pass, until one has raised nothing on the way back or there is a cycle of parents.
 use mathlib.Core.Path.{_≡_, sym, ap, subst, _∙_}
 use mathlib.Core.Bool.{Bool, true, false}
 use mathlib.Core.List.{List, List·Memᴰ, Memᴰ·of-map}
@@ -7,71 +7,77 @@ use native.Mathlib.Omega.{arith}
 use native.Mathlib.Nat.{mul-le-mul-right, mul-le-mul-left}
 use native.Mathlib.Decide.{decLe, decLt}
 use lib.ListN.{length}
-use Rattle.table.specs.declared.Table.{Table}
 use Rattle.runs.specs.declared.Demand.{Demand}
-use Rattle.constraints.specs.Demands.{demandsOf}
-use Rattle.constraints.specs.Count.{demands-bounded}
+use Rattle.sweeps.specs.Number.{sweep-few}
 use Rattle.paths.specs.Places.{at, length-written}
-use Rattle.paths.specs.Constraint.{Constraint}
+use Rattle.paths.specs.Constraint.{Constraint, Fits}
 use Rattle.paths.specs.State.{State, passOf, hitsOf, passesOf, passes-none, passes-more}
 use Rattle.paths.specs.Bounds.{SameSize, room-kept, passes-size, Under, Gains, passes-under}
 use Rattle.paths.specs.Pass.{Start}
 use Rattle.paths.specs.Cycle.{OnCycle}
-use Rattle.paths.specs.Outcome.{outcome-links, outcome-settled, outcome-must}
+use Rattle.paths.specs.Outcome.{outcome-links, outcome-must}
 use Rattle.paths.specs.Search.{Searchable, Search, found-some}
-use Rattle.checks.specs.InParts.{inParts}
+use Rattle.checks.specs.InParts.{inParts, allInParts}
+use Rattle.checks.specs.Checks.{unit, length-parts}
+use Rattle.relaxing.specs.Rows.{Rows, sweep, moments, constraintsOf, Sound, sound-moments}
+use Rattle.relaxing.specs.Pass.{Passable, Swept, slight-fits}
 use Rattle.relaxing.specs.Passes.{Begins, Ended}
-use Rattle.constraints.specs.Sized.{Sized, partsOf, sized-parts}
-use Rattle.checks.specs.Weights.{constraintsOf, unit, sized-fits, sized-gain}
-use Rattle.checks.specs.Checks.{length-parts}
-use Rattle.relaxing.specs.Turns.{Passable, Swept}
 
 -- What the passes ask: the start values, and a mark for each moment.
-pub record Ready (t : Table) (k : ℕ) (s : State) (marks : List ℕ) : Type 0 where
-  pub sized : Sized t k
-  pub begins : Begins (partsOf t k) (k * t .steps) (t .clocks) s
-  pub room : partsOf t k ≤ length marks
+pub record Ready (R : Rows) (s : State) (marks : List ℕ) : Type 0 where
+  pub sound : Sound R
+  pub begins : Begins (moments R) (R .total) (R .clocks) s
+  pub room : moments R ≤ length marks
 
 -- After m passes from s₀, of which each has raised something and left no cycle of parents: the state s, and the stamp q of
 -- the next check.
-pub record Passing (t : Table) (k : ℕ) (s₀ : State) (m q : ℕ) (s : State) : Type 0 where
-  pub few : m < partsOf t k
-  pub after : s ≡ passesOf (constraintsOf t k) m s₀
-  pub stamp : q ≡ m * length (constraintsOf t k) + 1
+pub record Passing (R : Rows) (s₀ : State) (m q : ℕ) (s : State) : Type 0 where
+  pub few : m < moments R
+  pub after : s ≡ passesOf (constraintsOf R) m s₀
+  pub stamp : q ≡ m * length (constraintsOf R) + 1
 
-module _ (t : Table) (k : ℕ) (s₀ : State) (z : Sized t k) (b : Begins (partsOf t k) (k * t .steps) (t .clocks) s₀) where
+module _ (R : Rows) (s₀ : State) (z : Sound R) (b : Begins (moments R) (R .total) (R .clocks) s₀) where
   abbrev N : ℕ
-  N = partsOf t k
+  N = moments R
 
   abbrev cs : List Constraint
-  cs = constraintsOf t k
+  cs = constraintsOf R
+
+  fits : Fits N cs
+  unfolding constraintsOf
+  fits = slight-fits N (sweep R) (z .slight)
 
   start : Start N cs s₀
-  start = record { fits = sized-fits t k z; room = b .room; unstamped = b .unstamped }
+  start = record { fits = fits; room = b .room; unstamped = b .unstamped }
 
   gains : Gains unit cs
   unfolding constraintsOf
-  gains c m = go (Memᴰ·of-map (inParts N) (demandsOf t k) m)
+  gains c m = go (Memᴰ·of-map (inParts N) (sweep R) m)
     where
-      go : (d : Demand) × List·Memᴰ d (demandsOf t k) × (inParts N d ≡ c) → c .gain ≤ unit
-      go d = rw (← d .2) (sized-gain t k z (d .0) (d .1))
+      go : (d : Demand) × List·Memᴰ d (sweep R) × (inParts N d ≡ c) → c .gain ≤ unit
+      go d = rw (← d .2) (z .slight (d .0) (d .1) .gain)
 
-  few-checks : length cs ≤ 132102
+  few-checks : length cs ≤ 13318
   unfolding constraintsOf
-  few-checks = omega (arith, length-parts N (demandsOf t k), demands-bounded t k (z .good) (z .few))
+  few-checks =
+      omega (
+        arith,
+        length-parts N (sweep R),
+        sweep-few (R .low) (R .up) (R .far) (R .steps) (R .clocks) (R .total) (z .clocks) (z .few),
+      )
 
   low : Under N (4001 * 1031) (s₀ .time)
-  low v w = go (decLe v (k * t .steps))
+  low v w = go (decLe v (R .total))
     where
-      go : Dec (v ≤ k * t .steps) → at (s₀ .time) v ≤ 4001 * 1031
-      go (yes l) = omega (arith, b .now v l, sized-parts t k z)
+      go : Dec (v ≤ R .total) → at (s₀ .time) v ≤ 4001 * 1031
+      go (yes l) = omega (arith, b .now v l, sound-moments R z)
       go (no l) = omega (arith, b .past v (omega arith) w)
 
   -- the number of checks, and the times after them
-  checks : (m : ℕ) → m ≤ N → m * length cs ≤ 1031 * 132102
+  checks : (m : ℕ) → m ≤ N → m * length cs ≤ 1031 * 13318
   checks m l =
-      let few : m ≤ 1031 = omega (arith, l, sized-parts t k z) in
-      omega (arith, mul-le-mul-left m few-checks, mul-le-mul-right 132102 few)
+      let few : m ≤ 1031 = omega (arith, l, sound-moments R z) in
+      omega (arith, mul-le-mul-left m few-checks, mul-le-mul-right 13318 few)
 
   under : (m : ℕ) → m ≤ N → Under N (2 ^ 62) (passesOf cs m s₀ .time)
   under m l v w =
@@ -79,7 +85,7 @@ module _ (t : Table) (k : ℕ) (s₀ : State) (z : Sized t k) (b : Begins (parts
         arith,
         checks m l,
         mul-le-mul-right unit (checks m l),
-        passes-under N unit cs (4001 * 1031) m s₀ (sized-fits t k z) gains (b .room) low v w,
+        passes-under N unit cs (4001 * 1031) m s₀ fits gains (b .room) low v w,
       )
 
   -- so in the end no time is large, and there is room for all
@@ -90,15 +96,15 @@ module _ (t : Table) (k : ℕ) (s₀ : State) (z : Sized t k) (b : Begins (parts
   ended-size s′ r e = rw (e .after) (passes-size cs (e .passes) s₀)
 
   -- before the first pass
-  pub passing-none : Passing t k s₀ 0 1 s₀
+  pub passing-none : Passing R s₀ 0 1 s₀
   passing-none = record { few = omega arith; after = sym (passes-none cs s₀); stamp = omega arith }
 
-  module _ (m q : ℕ) (s : State) (p : Passing t k s₀ m q s) where
+  module _ (m q : ℕ) (s : State) (p : Passing R s₀ m q s) where
     -- the next pass can be made
-    pub passing-passable : Passable t k s q
+    pub passing-passable : Passable R s q
     passing-passable =
         record {
-          sized = z;
+          sound = z;
           room = rw (p .after) (room-kept N s₀ _ (passes-size cs m s₀) (b .room));
           under = rw (p .after) (under m (omega (arith, p .few)));
           stamp = omega (arith, p .stamp, checks m (omega (arith, p .few)));
@@ -107,25 +113,25 @@ module _ (t : Table) (k : ℕ) (s₀ : State) (z : Sized t k) (b : Begins (parts
     pub passing-size : SameSize s₀ s
     passing-size = rw (p .after) (passes-size cs m s₀)
 
-    -- s′ is the state after one pass more, and h says whether it raised something
-    module _ (s′ : State) (h : Bool) (r : ℕ) (w : Swept t k q s s′ h r) where
+    -- s′ is the state after one pass more, and h says whether to go on
+    module _ (s′ : State) (h : Bool) (r : ℕ) (w : Swept R q s s′ h r) where
       more : s′ ≡ passesOf cs (m + 1) s₀
       more =
-          w .progress .after
+          w .after
           ∙ ap (λ (i : ℕ). passOf cs i s) (p .stamp)
           ∙ ap (λ (x : State). passOf cs (m * length cs + 1) x) (p .after)
           ∙ sym (passes-more cs m s₀)
 
-      hit : h ≡ hitsOf cs (m * length cs + 1) (passesOf cs m s₀)
-      hit =
-          w .progress .hits
-          ∙ ap (λ (i : ℕ). hitsOf cs i s) (p .stamp)
-          ∙ ap (λ (x : State). hitsOf cs (m * length cs + 1) x) (p .after)
+      hit : h ≡ true → hitsOf cs (m * length cs + 1) (passesOf cs m s₀) ≡ true
+      hit e =
+          ap (λ (x : State). hitsOf cs (m * length cs + 1) x) (sym (p .after))
+          ∙ ap (λ (i : ℕ). hitsOf cs i s) (sym (p .stamp))
+          ∙ w .loud e
 
       pub more-size : SameSize s₀ s′
       more-size = rw more (passes-size cs (m + 1) s₀)
 
-      -- It raised nothing: the times are a solution.
+      -- Nothing was raised on the way back: the times are a solution.
       pub ended-quiet : h ≡ false → Ended N cs s₀ s′ N
       ended-quiet e =
           record {
@@ -133,10 +139,10 @@ module _ (t : Table) (k : ℕ) (s₀ : State) (z : Sized t k) (b : Begins (parts
             few = omega (arith, p .few);
             after = more;
             cycle = λ l. absurd (omega arith);
-            solved = λ l. rw more (outcome-settled N cs s₀ start m (sym hit ∙ e));
+            solved = λ l. w .quiet e;
           }
 
-      -- It raised something: look for a cycle of parents.
+      -- Otherwise look for a cycle of parents.
       pub more-searchable : (marks : List ℕ) → N ≤ length marks → Searchable N (s′ .parent) (s′ .stamp) marks
       more-searchable marks l = record { links = rw more (outcome-links N cs s₀ start (m + 1)); room = l }
 
@@ -152,7 +158,7 @@ module _ (t : Table) (k : ℕ) (s₀ : State) (z : Sized t k) (b : Begins (parts
             }
 
         -- There is none: the N-th pass has not been made yet.
-        pub passing-more : h ≡ true → N ≤ u → Passing t k s₀ (m + 1) r s′
+        pub passing-more : h ≡ true → N ≤ u → Passing R s₀ (m + 1) r s′
         passing-more e l =
             record {
               few = go (decLt (m + 1) N);
@@ -163,7 +169,7 @@ module _ (t : Table) (k : ℕ) (s₀ : State) (z : Sized t k) (b : Begins (parts
             go : Dec (m + 1 < N) → m + 1 < N
             go (yes g) = g
             go (no g) =
-                let o = outcome-must N cs s₀ start m (omega arith) (sym hit ∙ e) in
+                let o = outcome-must N cs s₀ start m (omega arith) (hit e) in
                 let c : OnCycle N (s′ .parent) (s′ .stamp) (o .0) =
                 subst (λ (x : State). OnCycle N (x .parent) (x .stamp) (o .0)) (sym more) (o .1) in
                 absurd (omega (arith, found-some N (s′ .parent) (s′ .stamp) u (o .0) (f .found) c))

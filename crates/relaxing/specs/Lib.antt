@@ -1,8 +1,8 @@
--- checks of a list of demands, part by part
-pub mod Turns
--- the checks of a pass: steps, then starts
-pub mod Stepping
-pub mod Starting
+-- the rows that passes go over
+pub mod Rows
+-- a pass: forth, back, starts
+pub mod Onward
+pub mod Pass
 -- pass after pass
 pub mod Passes
 pub mod Ending

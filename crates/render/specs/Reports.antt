@@ -1,26 +1,17 @@
 -- The report on a table's bytes.
 use mathlib.Core.Path.{_≡_}
-use mathlib.Core.Bool.{cond}
 use mathlib.Core.List.{List, [], _++_}
 use Prim.Native.Nat.{ℕ, zero, suc, _+_, _*_, _≤_, _<_}
-use lib.Dec.{ltb}
 use lib.ListN.{length, drop}
 use Rattle.table.specs.declared.Read.{Read}
 use Rattle.table.specs.declared.Read.the-variants as read
 use Rattle.wire.specs.Reading.{readOf}
 use Rattle.asking.specs.Rounds.{clocksOf, cycleOf}
 use Rattle.rounds.specs.declared.Count.{Count}
-use Rattle.rounds.specs.declared.Count.the-variants.{Finite, Endless, Refused}
 use Rattle.rounds.specs.Answer.{Counts}
 use Rattle.plan_lines.specs.PlanLines.{planLines}
 use Rattle.plan_report.specs.Found.{PlannedIn}
-use Rattle.render.specs.Lines.{countedLine, refusalLine, countLine}
-
--- How many rounds are planned: 2, or as many as the count where it is smaller.
-unfoldable pub plannedOf : Count → ℕ
-plannedOf (Finite c) = cond (ltb c 2) c 2
-plannedOf Endless = 2
-plannedOf (Refused f) = 0
+use Rattle.count_lines.specs.Lines.{countedLine, refusalLine, countLine, plannedOf}
 
 -- the lines after the second: those of the plan of k rounds, if there are rounds to plan
 unfoldable pub restLines : ℕ → ℕ → ℕ → (ℕ → ℕ) → (ℕ → ℕ) → List ℕ

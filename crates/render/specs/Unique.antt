@@ -1,11 +1,10 @@
 -- There is only one report on a table's bytes.
 use mathlib.Core.Path.{_≡_, refl, sym, _∙_, ap, subst}
 use mathlib.Core.List.{List, _++_}
-use Prim.Native.Nat.{ℕ, zero, suc, _+_, _*_, _/_, _%_, _≤_, _<_}
+use Prim.Native.Nat.{ℕ, zero, suc, _+_, _*_, _≤_, _<_}
 use native.Mathlib.Omega.{arith}
 use native.Mathlib.Decide.{decLt}
 use lib.ListN.{length, drop}
-use Rattle.table.specs.Step.{Step}
 use Rattle.table.specs.declared.Read.{Read}
 use Rattle.table.specs.declared.Read.the-variants as read
 use Rattle.wire.specs.Reading.{readOf}
@@ -13,38 +12,20 @@ use Rattle.wire.specs.Records.{Bytes}
 use Rattle.asking.specs.Rounds.{roundsIn}
 use Rattle.runs.specs.Demand.{anyStarts}
 use Rattle.rounds.specs.declared.Count.{Count}
-use Rattle.rounds.specs.Answer.{Counts}
 use Rattle.rounds.specs.One.{counts-unique}
 use Rattle.plan.specs.Same.{planned-unique}
-use Rattle.plan_lines.specs.PlanLines.{partsLine, startLine, stepLine, startLines, stepLines, planLines}
+use Rattle.plan_lines.specs.PlanLines.{planLines}
+use Rattle.plan_lines.specs.Same.{plan-lines-same}
 use Rattle.plan_report.specs.Accepted.{Tabled, tabled}
 use Rattle.plan_report.specs.Found.{PlannedIn}
-use Rattle.render.specs.Lines.{countedLine, countLine}
-use Rattle.render.specs.Reports.{plannedOf, restLines, reportOf, Tells, TellsOf, Reports, Stands, Reported}
-
--- ---- the lines of equal plans
-starts-same : (s r : ℕ → ℕ) (n : ℕ) → ((j : ℕ) → 0 < j → j ≤ n → s j ≡ r j) → startLines s n ≡ startLines r n
-unfolding startLines
-starts-same s r zero e = refl
-starts-same s r (suc n) e =
-    ap (λ (x : List ℕ). x ++ startLine (suc n) (s (suc n))) (starts-same s r n (λ j p l. e j p (omega arith)))
-    ∙ ap (λ (x : ℕ). startLines r n ++ startLine (suc n) x) (e (suc n) (omega arith) (omega arith))
-
-steps-same : (L : ℕ) (t u : ℕ → ℕ) (m : ℕ) → ((i : ℕ) → i ≤ m → t i ≡ u i) → stepLines L t m ≡ stepLines L u m
-unfolding stepLines
-steps-same L t u zero e = refl
-steps-same L t u (suc m) e =
-    ap (λ (x : List ℕ). x ++ stepLine (m / L + 1) (m % L + 1) (t (suc m))) (steps-same L t u m (λ i l. e i (omega arith)))
-    ∙ ap (λ (x : ℕ). stepLines L u m ++ stepLine (m / L + 1) (m % L + 1) x) (e (suc m) (omega arith))
+use Rattle.count_lines.specs.Lines.{countedLine, countLine, plannedOf}
+use Rattle.render.specs.Reports.{restLines, reportOf, Tells, TellsOf, Reports, Stands, Reported}
 
 module _ (bytes : List ℕ) (n L : ℕ) (a : Tabled bytes n L) where
   plan-same : (k : ℕ) (t s u r : ℕ → ℕ) → PlannedIn bytes n L k t s → PlannedIn bytes n L k u r
       → planLines (k * L + n + 1) n L (k * L) t s ≡ planLines (k * L + n + 1) n L (k * L) u r
-  unfolding planLines
   plan-same k t s u r p q =
-      ap (λ (x : List ℕ). partsLine (k * L + n + 1) ++ x ++ stepLines L t (k * L)) (starts-same s r n (same .1))
-      ∙ ap (λ (x : List ℕ). partsLine (k * L + n + 1) ++ startLines r n ++ x)
-      (steps-same L t u (k * L) (λ i l. same .0 i (omega (arith, a .size k))))
+      plan-lines-same (k * L + n + 1) n L (k * L) t u s r (λ i h l. same .0 i (omega (arith, a .size k))) (same .1)
     where
       same : ((i : ℕ) → i ≤ length (roundsIn bytes k) → t i ≡ u i) × ((j : ℕ) → 0 < j → j ≤ n → s j ≡ r j)
       same = planned-unique (k * L + n + 1) n (roundsIn bytes k) anyStarts (a .asked k) t s u r p q

@@ -10,7 +10,7 @@ use Rattle.table.specs.declared.Read.the-variants as read
 use Rattle.table.specs.Refusal.{numberOf}
 use Rattle.text.specs.Over.{Written, written-as, written-front}
 use Rattle.wire.specs.Reading.{readOf}
-use Rattle.render.specs.Lines.{refusedLine, refusalLine}
+use Rattle.count_lines.specs.Lines.{refusedLine, refusalLine}
 use Rattle.render.specs.Reports.{TellsOf, Reported}
 use Rattle.render.specs.Writes.{WritesTable}
 

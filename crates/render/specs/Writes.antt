@@ -19,8 +19,8 @@ use Rattle.rounds.specs.Answer.{Allows, Counts, Answers}
 use Rattle.plan_lines.specs.PlanLines.{planLines}
 use Rattle.plan_report.specs.Accepted.{Tabled, Plannable}
 use Rattle.plan_report.specs.Found.{PlannedIn, WritesPlan}
-use Rattle.render.specs.Lines.{countedLine, countLine}
-use Rattle.render.specs.Reports.{plannedOf, restLines, reportOf, Tells}
+use Rattle.count_lines.specs.Lines.{countedLine, countLine, plannedOf}
+use Rattle.render.specs.Reports.{restLines, reportOf, Tells}
 
 -- the report on accepted bytes is written
 pub record WritesTable (bytes : List ℕ) (n L g : ℕ) (before after : List ℕ) (end : ℕ) : Type 0 where

@@ -1,14 +1,19 @@
 -- The question put to bytes: they are refused, or accepted, and then the table by value is the table they write down.
 use mathlib.Core.Path.{_≡_, refl, sym, _∙_}
-use mathlib.Core.List.{List}
-use Prim.Native.Nat.{ℕ}
+use mathlib.Core.List.{List, List·Memᴰ}
+use Prim.Native.Nat.{ℕ, _+_}
+use native.Mathlib.Omega.{arith}
 use Rattle.table.specs.declared.Read.{Read}
 use Rattle.table.specs.declared.Read.the-variants as read
 use Rattle.table.specs.declared.Refusal.{Refusal}
 use Rattle.table.specs.declared.Table.{Table}
 use Rattle.table.specs.Step.{Step, stepsOf, Good}
+use Rattle.format.specs.Encode.{Legal}
+use Rattle.format.specs.Accepted.{accepted-written}
+use Rattle.format.specs.Fair.{legal-clocks, legal-resets}
+use Rattle.joins.specs.Round.{UsesAll}
 use Rattle.wire.specs.Reading.{readOf}
-use Rattle.wire.specs.Listing.{listing}
+use Rattle.wire.specs.Listing.{listing, cycle}
 use Rattle.decode.specs.Fill.{tableOf}
 use Rattle.wire.specs.Records.{Bytes}
 use Rattle.decode.specs.Represent.{Represents}
@@ -30,6 +35,19 @@ module _ (bytes : List ℕ) (a : Read) (e : a ≡ readOf bytes) where
 
     pub accepted-good : Good t
     accepted-good = represents .good
+
+    legal : Legal (listing bytes)
+    legal = accepted-written bytes small n L g (sym e ∙ q) .legal
+
+    -- Its steps use no clock that it does not have.
+    pub accepted-uses : UsesAll (t .clocks + 1) t
+    accepted-uses s m = record {
+      guards = λ g i. omega (arith, represents .clocks, legal-clocks (listing bytes) legal s member g i);
+      resets = λ j h k. legal-resets (listing bytes) legal s member j (omega (arith, represents .clocks)) k;
+    }
+      where
+        member : List·Memᴰ s (cycle (listing bytes))
+        member = rw (represents .same) at m
 
     pub answers-counted : (r : Count) → Counts (t .clocks) (stepsOf t) r → Answers (readOf bytes) bytes r
     answers-counted r h =

@@ -3,7 +3,7 @@ use mathlib.Core.Path.{_≡_}
 use mathlib.Core.Bool.{Bool, true, false}
 use mathlib.Core.Logic.{_↔_, Iff·trans}
 use mathlib.Core.List.{List, []}
-use Prim.Native.Nat.{ℕ, _<_}
+use Prim.Native.Nat.{ℕ, _*_, _^_, _<_}
 use native.Mathlib.Omega.{arith}
 use Rattle.table.specs.declared.Table.{Table}
 use Rattle.table.specs.Step.{Step, Fair, stepsOf, Good}
@@ -14,6 +14,7 @@ use Rattle.runs.specs.Allowed.{any-places}
 use Rattle.runs.specs.Tools.{every-nil}
 use Rattle.zones.specs.Matrix.{Matrix}
 use Rattle.effects.specs.Demands.{each, every-each, matrix-is}
+use Rattle.effects.specs.Describes.{Describes}
 use Rattle.effects.specs.Begins.{Begins, no-run}
 use Rattle.effects.specs.Count.{limit}
 use Rattle.effects.specs.Known.{rounds-one, Known, known-none, known-count}
@@ -21,10 +22,13 @@ use Rattle.effects.specs.Starts.{startMatrix, permits, exists-begins, rounds-ex
 use Rattle.effects.specs.Tells.{Tells}
 use Rattle.rounds.specs.declared.Count.the-variants.{Finite, Endless}
 use Rattle.rounds.specs.Answer.{Counts}
-use Rattle.rounds.specs.Climbing.{Free, Tabled, Rounds, Climbs}
+use Rattle.effects.specs.Whole.{whole}
+use Rattle.gluing.specs.Laying.{effectAt}
+use Rattle.climbing.specs.Climbing.{Free, Tabled, Powers}
+use Rattle.climbing.specs.Ways.{Always, Down}
 
 -- The steps of an accepted table.
-pub good-tabled : (t : Table) → Good t → Tabled (stepsOf t)
+good-tabled : (t : Table) → Good t → Tabled (stepsOf t)
 good-tabled t good = record {
   fair = good .fair;
   some = omega (arith, length-steps t, good .steps-some);
@@ -34,11 +38,11 @@ good-tabled t good = record {
 -- ---- Any start
 
 -- The matrix of 01's starts, which are free,
-pub starts : ℕ → Matrix
+starts : ℕ → Matrix
 starts n = startMatrix n anyStarts
 
 -- allows every start.
-pub starts-free : (n : ℕ) → Free (starts n)
+starts-free : (n : ℕ) → Free (starts n)
 unfolding starts startMatrix anyStarts
 starts-free n P x p =
     matrix-is 7 P x p (each n (λ j. []))
@@ -47,7 +51,19 @@ starts-free n P x p =
 
 -- ---- The answers
 
-module _ (n : ℕ) (b : n < 7) (τ : List Step) (t : Tabled τ) where
+module _ (table : Table) (good : Good table) where
+  abbrev n : ℕ
+  n = table .clocks
+
+  abbrev τ : List Step
+  τ = stepsOf table
+
+  t : Tabled τ
+  t = good-tabled table good
+
+  b : n < 7
+  b = omega (arith, good .clocks-few)
+
   -- A run of k rounds exists exactly where one begins at a start that this matrix allows.
   exists-is : (k : ℕ) → Exists n anyStarts (copies τ k) ↔ Begins (starts n) (copies τ k)
   unfolding starts
@@ -71,26 +87,29 @@ module _ (n : ℕ) (b : n < 7) (τ : List Step) (t : Tabled τ) where
   }
 
   -- One round has no run.
-  pub counts-none : (ok : Bool) (z : List ℕ) → Tells τ ok z → ok ≡ false → Counts n τ (Finite 0)
-  counts-none ok z h e =
+  pub counts-none : (ok : Bool) (M : Matrix) → Tells τ ok M → ok ≡ false → Counts n τ (Finite 0)
+  counts-none ok M h e =
       known-counts 0 (known-none (starts n) τ begins-nil (no-run (starts n) (h .stuck e)))
       (omega arith)
 
   -- One round has an effect, from which the search starts.
-  pub counts-one : (ok : Bool) (z : List ℕ) → Tells τ ok z → ok ≡ true → Rounds τ 1 z
-  counts-one ok z h e = record { table = t; describes = rounds-one (h .runs e) }
+  pub counts-one : (w : ℕ) (ok : Bool) (m : List ℕ) → Tells τ ok (whole w (effectAt m 0)) → ok ≡ true → Powers w τ 1 m
+  counts-one w ok m h e = record { table = t; at = at }
+    where
+      at : (j : ℕ) → j < 1 → Describes (copies τ (2 ^ j)) (whole w (effectAt m (j * 196)))
+      at j l = let q : j ≡ 0 = omega arith in rw q (rounds-one (h .runs e))
 
-  module _ (endless : Bool) (c : ℕ) (z : List ℕ) (h : Climbs (starts n) τ 0 endless c z) where
-    -- Every number of rounds runs,
-    pub counts-endless : endless ≡ true → Counts n τ Endless
-    counts-endless e = record {
-      runs = λ k. ((λ r. tt), λ u. exists-is k .1 (h .on e k));
-      small = λ c q. absurd (never c q);
-    }
-      where
-        never : (c : ℕ) → Endless ≡ Finite c → ⊥
-        never c q = let z : _≡_ {A = ℕ} 0 1 = cc in omega arith
+  -- Every number of rounds runs,
+  pub counts-endless : Always τ → Counts n τ Endless
+  counts-endless h = record {
+    runs = λ k. ((λ r. tt), λ u. exists-is k .1 (h (starts n) (starts-free n) k));
+    small = λ c q. absurd (never c q);
+  }
+    where
+      never : (c : ℕ) → Endless ≡ Finite c → ⊥
+      never c q = let z : _≡_ {A = ℕ} 0 1 = cc in omega arith
 
-    -- or the count is found.
-    pub counts-finite : endless ≡ false → Counts n τ (Finite c)
-    counts-finite e = let k = h .counted e in known-counts c (k .known) (omega (arith, k .small))
+  -- or the count is found.
+  pub counts-finite : (w place c : ℕ) (m : List ℕ) → Down w τ place 0 c m → Counts n τ (Finite c)
+  counts-finite w place c m h =
+      let k = h .counted (starts n) (starts-free n) in known-counts c (k .known) (omega (arith, k .small))

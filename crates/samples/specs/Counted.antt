@@ -8,8 +8,8 @@ use Rattle.runs.specs.Run.{zeroed, copies}
 use Rattle.runs.specs.Demand.{plus, minus, guardsDemands, stepsDemands, anyStarts, startDemands, demands}
 use Rattle.runs.specs.Tools.{Every, every-nil, every-cons}
 use Rattle.wire.specs.Records.{recordsFrom}
-use Rattle.wire.specs.Reading.{headed, guarded, finished, ended, wholeOf, judgeOf, check, readOf}
-use Rattle.wire.specs.Reading.{cleared}
+use Rattle.records.specs.Rules.{headed, guarded, finished, ended, cleared}
+use Rattle.wire.specs.Reading.{wholeOf, judgeOf, check, readOf}
 use Rattle.wire.specs.Listing.{stepsIn, listing, guardsOf, flagged, stepOf}
 use Rattle.format.specs.Fair.{legal-clocks, legal-fair}
 use Rattle.rounds.specs.Answer.{Counts}

@@ -1,109 +1,101 @@
-// The effect of one step, as a difference bound matrix: see crate effects.
+// The effect of one step, as a difference bound matrix in a lent row of cells: see crate effects. A configuration has `side`
+// vertices, now and the clocks that the table has: before the step they are 0 to side - 1, after it the next.
 use closing::close;
 use table::Guard;
 use table::Relation;
 use table::Table;
 use zones::BASE;
-use zones::Closing;
-use zones::Matrix;
 use zones::ZERO;
 use zones::tighten;
 use zones::unbounded;
 ghost use mathlib.Core.Path.{_≡_};
-ghost use mathlib.Core.List.{_∷_};
+ghost use mathlib.Core.List.{[], _∷_};
 ghost use mathlib.Core.Bool.{false, cond};
-ghost use Prim.Native.Nat.{_<_};
+ghost use Prim.Native.Nat.{_-_, _<_, _≤_};
 ghost use lib.ListN.{length};
 ghost use Rattle.table.specs.Step.{FairGuard, stepAt, Good};
 ghost use Rattle.runs.specs.Demand.{plus, guardDemands, guardsDemands};
-ghost use Rattle.zones.specs.Cells.{unboundedOf, answer};
 ghost use Rattle.effects.specs.Demands.{each};
-ghost use Rattle.effects.specs.StepDemands.{resetDemands, clockDemands};
-ghost use Rattle.steps.specs.Puts.{putOf, putsOf};
-ghost use Rattle.steps.specs.Raw.{effectOf};
+ghost use Rattle.effects.specs.StepDemands.{resetDemands, clockDemands, Uses};
+ghost use Rattle.effects.specs.Whole.{Side, whole};
+ghost use Rattle.effects.specs.Tells.{Tells};
+ghost use Rattle.zones.specs.Cells.{matrix};
+ghost use Rattle.steps.specs.Puts.{putsOf};
 
 // The vertex of clock j's last reset after the step: the step, or its last reset before.
-fn last(j: usize, reset: bool) -> usize
-    requires { ⌜ j < 7 ⌝ }
-    ensures { λ r. ⌜ (r ≡ cond reset 7 j) × (r < 8) ⌝ }
+fn last(side: usize, j: usize, reset: bool) -> usize
+    requires { ⌜ j < side ⌝ }
+    ensures { λ r. ⌜ (r ≡ cond reset side j) × (r ≤ side) ⌝ }
 {
-    if reset { 7 } else { j }
+    if reset { side } else { j }
 }
 
 // Clock j between the two configurations: not last reset after the start, and reset by the step or kept.
-fn clock(cells: &mut [u64], j: usize, reset: bool)
-    requires { ⌜ (0 < j) × (j < 7) × (length (now cells) ≡ 441) ⌝ }
-    ensures { λ _. ⌜ now (cells .exit) ≡ putsOf (plus 0 j 0 false ∷ resetDemands reset j) (now (cells .entry)) ⌝ }
+fn clock(cells: &mut [u64], side: usize, j: usize, reset: bool)
+    requires { ⌜ (0 < j) × (j < side) × (side ≤ 7) × (length (now cells) ≡ 441) ⌝ }
+    ensures { λ _. ⌜ now (cells .exit) ≡ putsOf (plus 0 j 0 false ∷ resetDemands side reset j) (now (cells .entry)) ⌝ }
 {
-    let from = last(j, reset);
+    let from = last(side, j, reset);
     tighten(cells, 0, j, ZERO);
-    tighten(cells, from, 7 + j, ZERO);
-    tighten(cells, 7 + j, from, ZERO);
+    tighten(cells, from, side + j, ZERO);
+    tighten(cells, side + j, from, ZERO);
 }
 
 // A guard, on the time from its clock's last reset to the step.
-fn guard(cells: &mut [u64], g: Guard)
-    requires { ⌜ FairGuard g × (length (now cells) ≡ 441) ⌝ }
+fn guard(cells: &mut [u64], side: usize, g: Guard)
+    requires { ⌜ FairGuard g × (g .clock < side) × (side ≤ 7) × (length (now cells) ≡ 441) ⌝ }
     ensures { λ _. ⌜ now (cells .exit)
-        ≡ putsOf (guardDemands (g .relation) (g .constant) (g .clock) 7) (now (cells .entry)) ⌝ }
+        ≡ putsOf (guardDemands (g .relation) (g .constant) (g .clock) side) (now (cells .entry)) ⌝ }
 {
-    let j = g.clock;
-    let c = 2 * g.constant;
+    let j = g.clock as usize;
+    let c = 2 * g.constant as u64;
     let relation = g.relation;
     match relation {
-        Relation::Under => tighten(cells, j, 7, BASE + c),
-        Relation::AtMost => tighten(cells, j, 7, ZERO + c),
+        Relation::Under => tighten(cells, j, side, BASE + c),
+        Relation::AtMost => tighten(cells, j, side, ZERO + c),
         Relation::Exactly => {
-            tighten(cells, j, 7, ZERO + c);
-            tighten(cells, 7, j, ZERO - c);
+            tighten(cells, j, side, ZERO + c);
+            tighten(cells, side, j, ZERO - c);
         }
-        Relation::AtLeast => tighten(cells, 7, j, ZERO - c),
-        Relation::Over => tighten(cells, 7, j, BASE - c),
+        Relation::AtLeast => tighten(cells, side, j, ZERO - c),
+        Relation::Over => tighten(cells, side, j, BASE - c),
     }
 }
 
-// Time does not go back, and all six clocks.
-fn clocks(t: Table, i: usize) -> Matrix
-    requires { ⌜ i < 16 ⌝ }
-    ensures { λ r. ⌜ r .cells ≡ putsOf (each 6 (clockDemands (stepAt t i))) (putOf (plus 7 0 0 false) unboundedOf) ⌝ }
+// Time does not go back, and every clock.
+fn clocks(cells: &mut [u64], side: usize, t: Table, i: usize)
+    requires { ⌜ (i < 16) × Side side × (length (now cells) ≡ 441) ⌝ }
+    ensures { λ _. ⌜ now (cells .exit)
+        ≡ putsOf (plus side 0 0 false ∷ each (side - 1) (clockDemands side (stepAt t i))) (now (cells .entry)) ⌝ }
 {
-    let start = unbounded();
-    let mut cells = start.cells;
-    tighten(&mut cells, 7, 0, ZERO);
-    let mut j: usize = 6;
+    tighten(cells, side, 0, ZERO);
+    let mut j = side - 1;
     while 0 < j {
-        clock(&mut cells, j, t.resets[7 * i + j]);
+        clock(cells, side, j, t.resets[7 * i + j]);
         j -= 1;
     }
-    Matrix { cells: cells }
 }
 
 // The guards of step i.
-fn guards(m: Matrix, t: Table, i: usize) -> Matrix
-    requires { ⌜ Good t × (i < t .steps) ⌝ }
-    ensures { λ r. ⌜ r .cells ≡ putsOf (guardsDemands (stepAt t i .guards) 7 (λ j. j)) (m .cells) ⌝ }
+fn guards(cells: &mut [u64], side: usize, t: Table, i: usize)
+    requires { ⌜ Good t × (i < t .steps) × Uses side (stepAt t i) × (side ≤ 7) × (length (now cells) ≡ 441) ⌝ }
+    ensures { λ _. ⌜ now (cells .exit) ≡ putsOf (guardsDemands (stepAt t i .guards) side (λ j. j)) (now (cells .entry)) ⌝ }
 {
     let end = t.ends[i + 1];
-    let mut cells = m.cells;
     let mut k = t.ends[i];
     while k < end {
-        guard(&mut cells, t.guards[k]);
+        guard(cells, side, t.guards[k]);
         k += 1;
     }
-    Matrix { cells: cells }
 }
 
-// The effect of step i of a table, or that it has no run.
-pub fn step_effect(t: Table, i: usize) -> Closing
-    requires { ⌜ Good t × (i < t .steps) ⌝ }
-    ensures { λ r. ⌜ effectOf (stepAt t i) ≡ answer (r .ok) (r .zone .cells) ⌝ }
+// The effect of step i of a table in the cells, or that it has no run.
+pub fn step_effect(cells: &mut [u64], side: usize, t: Table, i: usize) -> bool
+    requires { ⌜ Good t × (i < t .steps) × Uses side (stepAt t i) × Side side × (length (now cells) ≡ 441) ⌝ }
+    ensures { λ r. ⌜ Tells (stepAt t i ∷ []) r (whole side (matrix (now (cells .exit)))) ⌝ }
 {
-    let start = clocks(t, i);
-    let whole = guards(start, t, i);
-    let mut cells = whole.cells;
-    let ok = close(&mut cells, 0, 14);
-    Closing {
-        ok: ok,
-        zone: Matrix { cells: cells },
-    }
+    unbounded(cells, side + side);
+    clocks(cells, side, t, i);
+    guards(cells, side, t, i);
+    close(cells, 0, side + side)
 }

@@ -36,12 +36,12 @@ pub steps-at : (t : Table) (j : ℕ) (d : Step) → j < t .steps → getD (steps
 unfolding stepsOf
 steps-at t j d l = steps-from-at t 0 (t .steps) j d l ∙ ap (stepAt t) (omega arith)
 
-step-member : (t : Table) (s : ℕ) → s < t .steps → List·Memᴰ (stepAt t s) (stepsOf t)
+pub step-member : (t : Table) (s : ℕ) → s < t .steps → List·Memᴰ (stepAt t s) (stepsOf t)
 step-member t s l =
     let b : s < length (stepsOf t) = rw (length-steps t) l in
     subst (λ x. List·Memᴰ x (stepsOf t)) (steps-at t s (stepAt t 0) l) (member-at (stepsOf t) s (stepAt t 0) b)
 
-guard-member : (t : Table) (s g : ℕ) (d : Guard) → getD (t .ends) s 0 ≤ g → g < getD (t .ends) (s + 1) 0
+pub guard-member : (t : Table) (s g : ℕ) (d : Guard) → getD (t .ends) s 0 ≤ g → g < getD (t .ends) (s + 1) 0
     → getD (t .ends) (s + 1) 0 ≤ length (t .guards) → List·Memᴰ (getD (t .guards) g d) (stepAt t s .guards)
 unfolding stepAt
 guard-member t s g d a b n =

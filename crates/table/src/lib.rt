@@ -13,9 +13,9 @@ pub enum Relation {
 
 // A guard on a clock, which is 1 to 6.
 pub struct Guard {
-    pub clock: usize,
+    pub clock: u8,
     pub relation: Relation,
-    pub constant: u64,
+    pub constant: u16,
 }
 
 // A table by value. Step i, from 0, has the guards from ends[i] up to ends[i + 1], in table order, and resets clock j where

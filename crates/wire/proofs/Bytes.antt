@@ -7,11 +7,12 @@ use native.Mathlib.Omega.{arith}
 use lib.ListN.{length, getD, take, drop, length-take, length-drop}
 use lib.Dec.{leb, lit<}
 use borrow.Author.Tests.{ne-eqb, le-leb, lt-leb}
-use Rattle.wire.specs.Records.{bodySize, recordAt}
+use Rattle.records.specs.Rules.{headed, guarded, cleared, finished, ended}
+use Rattle.wire.specs.Records.{recordAt}
 use Rattle.wire.specs.Laws.{byte-is}
-use Rattle.wire.specs.declared.Tally.{Tally}
-use Rattle.wire.specs.declared.Verdict.{Verdict}
-use Rattle.wire.specs.Reading.{headed, guarded, cleared, finished, ended, wholeOf}
+use Rattle.records.specs.declared.Tally.{Tally}
+use Rattle.records.specs.declared.Verdict.{Verdict}
+use Rattle.wire.specs.Reading.{wholeOf}
 
 -- the record of each kind, by its bytes
 module _ (bytes : List ℕ) (at : ℕ) (t : Tally) where

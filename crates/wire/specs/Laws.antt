@@ -8,13 +8,13 @@ use native.Mathlib.Omega.{arith}
 use native.Mathlib.Decide.{decLe}
 use borrow.Author.Tests.{le-leb, lt-leb}
 use Rattle.table.specs.declared.Fault.the-variants as fault
-use Rattle.table.specs.declared.Refusal.{Refusal}
 use Rattle.table.specs.declared.Read.{Read}
 use Rattle.table.specs.declared.Read.the-variants as read
-use Rattle.wire.specs.declared.Tally.{Tally}
-use Rattle.wire.specs.declared.Verdict.{Verdict}
-use Rattle.wire.specs.declared.Verdict.the-variants.{Refused, Next, Last}
-use Rattle.wire.specs.Records.{Record, bodySize, recordAt, recordsAt, records-none, records-next}
+use Rattle.records.specs.declared.Tally.{Tally}
+use Rattle.records.specs.declared.Verdict.{Verdict}
+use Rattle.records.specs.declared.Verdict.the-variants.{Refused, Next, Last}
+use Rattle.records.specs.Rules.{bodySize}
+use Rattle.wire.specs.Records.{Record, recordAt, recordsAt, records-none, records-next}
 use Rattle.wire.specs.Reading.{byte, judgeOf, tail, check, start, readOf}
 
 -- byte i of a record's body, by its place in the table

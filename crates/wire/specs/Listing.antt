@@ -5,9 +5,8 @@ use Prim.Native.Nat.{ℕ, _+_}
 use lib.Dec.{eqb}
 use lib.ListN.{set, replicate}
 use Rattle.table.specs.declared.Guard.{Guard}
-use Rattle.table.specs.declared.Relation.{Relation}
-use Rattle.table.specs.declared.Relation.the-variants.{Under, AtMost, Exactly, AtLeast, Over}
 use Rattle.table.specs.Step.{Step}
+use Rattle.records.specs.Rules.{relationOf}
 use Rattle.wire.specs.Records.{Record, records}
 use Rattle.wire.specs.Reading.{byte, constantOf}
 
@@ -27,10 +26,6 @@ pub data Content : Type 0 where
   entry : Entry → Content
   finish : Content
   close : Content
-
--- 0 under, 1 at most, 2 exactly, 3 at least, 4 over
-abbrev pub relationOf : ℕ → Relation
-relationOf c = cond (eqb c 0) Under (cond (eqb c 1) AtMost (cond (eqb c 2) Exactly (cond (eqb c 3) AtLeast Over)))
 
 abbrev pub guardIn : Record → Guard
 guardIn r = record { clock = byte r 0; relation = relationOf (byte r 1); constant = constantOf r }

@@ -1,62 +1,22 @@
--- Records to the answer: the tests in the order of 01's rows, from the left, and the first fault counts.
-use mathlib.Core.Bool.{Bool, true, false, cond, not, _&&_}
+-- Records to the answer: a record's kind, place and length are tested first, then its body, and the first fault counts.
+use mathlib.Core.Bool.{Bool, true, false, cond, not}
 use mathlib.Core.List.{List, [], _∷_}
 use Prim.Native.Nat.{ℕ, _+_, _*_}
-use lib.Dec.{eqb, ltb, leb}
+use lib.Dec.{eqb, leb}
 use lib.ListN.{length, getD}
-use Rattle.table.specs.declared.Fault.{Fault}
 use Rattle.table.specs.declared.Fault.the-variants as fault
 use Rattle.table.specs.declared.Read.{Read}
 use Rattle.table.specs.declared.Read.the-variants as read
-use Rattle.wire.specs.declared.Tally.{Tally}
-use Rattle.wire.specs.declared.Verdict.{Verdict}
-use Rattle.wire.specs.declared.Verdict.the-variants.{Refused, Next, Last}
-use Rattle.wire.specs.Records.{Record, bodySize, records}
-
--- refused for a fault at a place, unless the test holds
-abbrev pub need : Bool → Fault → ℕ → Verdict → Verdict
-need true f place then = then
-need false f place then = Refused (record { fault = f; place = place })
-
--- a number from one to another
-abbrev pub within : ℕ → ℕ → ℕ → Bool
-within low x high = leb low x && leb x high
+use Rattle.records.specs.declared.Tally.{Tally}
+use Rattle.records.specs.declared.Verdict.{Verdict}
+use Rattle.records.specs.declared.Verdict.the-variants.{Refused, Next, Last}
+use Rattle.records.specs.Rules.{need, within, bodySize, headed, guarded, cleared, finished, ended}
+use Rattle.wire.specs.Records.{Record, records}
 
 -- both tests hold, or neither
 abbrev pub agree : Bool → Bool → Bool
 agree true b = b
 agree false b = not b
-
--- a head at a place, with a number of clocks
-unfoldable pub headed : ℕ → ℕ → Verdict
-headed place n =
-    need (within 1 n 6) fault.Head place
-    (Next (record { clocks = n; steps = 0; guards = 0; pending = false }))
-
--- a guard: clock, relation, constant
-unfoldable pub guarded : Tally → ℕ → ℕ → ℕ → ℕ → Verdict
-guarded t place clock relation constant =
-    need (ltb (t .guards) 64) fault.Bounds place
-    (need (within 1 clock (t .clocks)) fault.Timer place
-    (need (leb relation 4) fault.Relation place
-    (need (leb constant 4000) fault.Constant place
-    (Next (record { clocks = t .clocks; steps = t .steps; guards = t .guards + 1; pending = true })))))
-
--- a reset of a clock
-unfoldable pub cleared : Tally → ℕ → ℕ → Verdict
-cleared t place clock =
-    need (within 1 clock (t .clocks)) fault.Timer place
-    (Next (record { clocks = t .clocks; steps = t .steps; guards = t .guards; pending = true }))
-
--- a step is finished
-unfoldable pub finished : Tally → ℕ → Verdict
-finished t place =
-    need (ltb (t .steps) 16) fault.Steps place
-    (Next (record { clocks = t .clocks; steps = t .steps + 1; guards = t .guards; pending = false }))
-
--- the end
-unfoldable pub ended : Tally → ℕ → Verdict
-ended t place = need (leb 1 (t .steps) && not (t .pending)) fault.Steps place Last
 
 -- byte i, from 0, of a record's body
 abbrev pub byte : Record → ℕ → ℕ

@@ -1,13 +1,12 @@
 -- Bytes to records: order kept, each with its place. No record is judged here.
 use mathlib.Core.Path.{_≡_, refl, sym, _∙_, ap}
-use mathlib.Core.Bool.{cond}
 use mathlib.Core.List.{List, [], _∷_}
 use Prim.Native.Nat.{ℕ, zero, suc, _+_, _≤_, _<_}
 use native.Mathlib.Omega.{arith}
 use native.Mathlib.Numerals.{add-one}
-use lib.Dec.{eqb}
 use lib.ListN.{length, getD, take, drop, drop-of-length-le}
 use lib.Seq.{drop-cons, drop-drop}
+use Rattle.records.specs.Rules.{bodySize}
 
 -- every number is a byte
 abbrev pub Bytes : List ℕ → Type 0
@@ -18,10 +17,6 @@ pub record Record : Type 0 where
   pub place : ℕ
   pub kind : ℕ
   pub body : List ℕ
-
--- the length of a body, by the kind: a head 1, a bound 4, a zeroing 1, any other none
-abbrev pub bodySize : ℕ → ℕ
-bodySize k = cond (eqb k 1) 1 (cond (eqb k 2) 4 (cond (eqb k 3) 1 0))
 
 -- the record that begins at a place with a kind byte, before the bytes given
 abbrev pub recordAt : ℕ → ℕ → List ℕ → Record

@@ -56,7 +56,7 @@ pub fn write(t: Table, k: usize, row: &mut [i64])
         }
         if g < t.ends[s + 1] {
             let guard = t.guards[g];
-            let clock = guard.clock;
+            let clock = guard.clock as usize;
             q = cells::put_guard(row, q, guard, resets[clock], past + 1);
             g += 1;
             continue;

@@ -1,5 +1,5 @@
 -- The closure of a matrix, told by its solutions: every matrix has one, or has no solution.
-use mathlib.Core.Logic.{_⊎_, inl, inr, ⊎-elim}
+use mathlib.Core.Logic.{_⊎_, inl, inr, ⊎-elim, _↔_, Iff·trans}
 use Prim.Native.Nat.{ℕ, zero, suc, _≤_, _<_}
 use native.Mathlib.Omega.{arith}
 use Rattle.basics.specs.Choice.{not-below-zero}
@@ -18,6 +18,29 @@ pub record Closure (N : ℕ) (M C : Matrix) : Type 0 where
 -- A closure of a flat matrix is flat.
 pub closure-flat : {N : ℕ} {M C : Matrix} → Closure N M C → Flat N M → Flat N C
 closure-flat c f a h = ⊑-trans (c .low a a h h) (f a h)
+
+-- C is the canonical matrix of the rows of values in S: closed and flat, and solved by these and no others.
+pub record Canonical (N : ℕ) (C : Matrix) (S : ℕ → (ℕ → ℕ) → Type 0) : Type 0 where
+  pub closed : Closed N C
+  pub flat : Flat N C
+  pub is : (P : ℕ) (x : ℕ → ℕ) → 0 < P → Solves N P C x ↔ S P x
+
+-- A closure of a flat matrix is that of its solutions.
+pub closure-canonical : {N : ℕ} {M C : Matrix} → Closure N M C → Flat N M → Canonical N C (λ P x. Solves N P M x)
+closure-canonical c f = record {
+  closed = c .closed;
+  flat = closure-flat c f;
+  is = λ P x p. (c .back P x p, c .keeps P x p);
+}
+
+-- The same rows, told in another way.
+pub canonical-for : {N : ℕ} {C : Matrix} {S : ℕ → (ℕ → ℕ) → Type 0} (T : ℕ → (ℕ → ℕ) → Type 0) → Canonical N C S
+    → ((P : ℕ) (x : ℕ → ℕ) → 0 < P → S P x ↔ T P x) → Canonical N C T
+canonical-for T c e = record {
+  closed = c .closed;
+  flat = c .flat;
+  is = λ P x p. Iff·trans (c .is P x p) (e P x p);
+}
 
 -- Pivots in turn make a closure where the other vertices are settled.
 pub pivots-closure : {N from k : ℕ} {M C : Matrix} → Pivots N from M k C → OthersSettled N from k M → Closure N M C

@@ -4,7 +4,6 @@ pub mod Matrix
 pub mod Floyd
 pub mod Extend
 pub mod Closure
-pub mod Renaming
 pub mod Tight
 pub mod Weight
 pub mod Linear

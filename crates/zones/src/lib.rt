@@ -1,8 +1,8 @@
-// Difference bound matrices of 21 vertices: codes of bounds, and bounds put in.
+// Difference bound matrices in a lent row of 441 cells, 21 for each of up to 21 vertices: codes of bounds, and bounds put in.
 ghost use mathlib.Core.Path.{_≡_};
-ghost use Prim.Native.Nat.{_<_, min};
+ghost use Prim.Native.Nat.{_*_, _<_, _≤_, min};
 ghost use lib.ListN.{length};
-ghost use Rattle.zones.specs.Cells.{unboundedOf, tightenOf};
+ghost use Rattle.zones.specs.Cells.{Clear, Diagonal, tightenOf};
 
 // The code of no bound.
 pub const NONE: u64 = 4611686018427387904;
@@ -13,17 +13,6 @@ pub const ZERO: u64 = 576460752303423489;
 // The code of the strict zero, which sums of codes count twice.
 pub const BASE: u64 = 576460752303423488;
 
-// A row of 21 codes for each of 21 vertices: cell 21 * a + b bounds the value at b less the value at a.
-pub struct Matrix {
-    pub cells: [u64; 441],
-}
-
-// How closing ended. The cells are closed where `ok` is true; where it is false there is no solution.
-pub struct Closing {
-    pub ok: bool,
-    pub zone: Matrix,
-}
-
 // The tighter of two codes.
 pub fn tighter(e: u64, f: u64) -> u64
     ensures { λ r. ⌜ r ≡ min e f ⌝ }
@@ -31,17 +20,30 @@ pub fn tighter(e: u64, f: u64) -> u64
     if e < f { e } else { f }
 }
 
-// The matrix with no bounds: the weak zero from each vertex to itself, and none elsewhere.
-pub fn unbounded() -> Matrix
-    ensures { λ r. ⌜ r .cells ≡ unboundedOf ⌝ }
+// No bound at all from the first `size` vertices.
+pub fn clear(cells: &mut [u64], size: usize)
+    requires { ⌜ (length (now cells) ≡ 441) × (size ≤ 21) ⌝ }
+    ensures { λ _. ⌜ Clear (size * 21) (now (cells .exit)) ⌝ }
 {
-    let mut cells = [NONE; 441];
+    let end = size * 21;
+    let mut k: usize = 0;
+    while k < end {
+        cells[k] = NONE;
+        k += 1;
+    }
+}
+
+// No bounds among the first `size` vertices: the weak zero from each to itself, and none elsewhere.
+pub fn unbounded(cells: &mut [u64], size: usize)
+    requires { ⌜ (length (now cells) ≡ 441) × (size ≤ 21) ⌝ }
+    ensures { λ _. ⌜ Diagonal size size (now (cells .exit)) ⌝ }
+{
+    clear(cells, size);
     let mut i: usize = 0;
-    while i < 21 {
+    while i < size {
         cells[i * 22] = ZERO;
         i += 1;
     }
-    Matrix { cells: cells }
 }
 
 // The bound from a to b, tightened by the code e.

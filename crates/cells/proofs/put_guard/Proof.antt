@@ -6,12 +6,15 @@ use Rattle.cells.specs.Pieces.{first-fits, guard-once, second-fits, guar
 use Rattle.cells.proofs.put_guard.Statement.{statement}
 use Rattle.cells.proofs.put_guard.Tie as tie
 
+cast-constant : tie.Need-cast-constant
+cast-constant c = search needs
+
 guard-demand-requires : tie.Need-guard-demand-requires
 guard-demand-requires c κs = search needs
 
 put-requires : tie.Need-put-requires
 put-requires c κs =
-    let start = c .before .before in
+    let start = c .before .before .before in
     first-fits (start .args .guard) (start .args .z) (start .args .i) (start .pre) (c .before .guard-demand .ensures)
 
 twice-requires : tie.Need-twice-requires
@@ -23,7 +26,7 @@ same-length c = search needs
 returns : tie.Need-returns
 returns c =
     let written = c .before .before .before in
-    let start = written .before .before .before in
+    let start = written .before .before .before .before in
     guard-once (start .args .guard) (start .args .z) (start .args .i) (start .pre) (written .before .before .guard-demand .ensures) (written .put .ensures)
     (sym (c .before .twice .ensures) ∙ not-true _ (c .if1 .taken))
 
@@ -34,7 +37,7 @@ put-requires-2 : tie.Need-put-requires-2
 put-requires-2 c κs =
     let other = c .before .before in
     let written = other .before .before .before in
-    let start = written .before .before .before in
+    let start = written .before .before .before .before in
     second-fits (start .args .guard) (start .args .z) (start .args .i) (start .pre) (written .before .before .guard-demand .ensures) (written .put .ensures)
     (sym (other .before .twice .ensures) ∙ not-false _ (other .if1 .left)) (c .before .guard-demand2 .ensures)
 
@@ -45,7 +48,7 @@ returns-2 : tie.Need-returns-2
 returns-2 c =
     let other = c .before .before .before .before in
     let written = other .before .before .before in
-    let start = written .before .before .before in
+    let start = written .before .before .before .before in
     guard-twice (start .args .guard) (start .args .z) (start .args .i) (start .pre) (written .before .before .guard-demand .ensures) (written .put .ensures)
     (sym (other .before .twice .ensures) ∙ not-false _ (other .if1 .left)) (c .before .before .before .guard-demand2 .ensures)
     (c .before .put2 .ensures)
@@ -54,6 +57,7 @@ pub put-guard-spec : {M : Type 1} → statement M
 put-guard-spec =
     tie.close
     (tie.spec
+    cast-constant
     guard-demand-requires
     put-requires
     twice-requires

@@ -1,27 +1,27 @@
--- `closing::close` meets its contract. Before turn p the cells are those of `closeOf from p`; no diagonal was negative.
-use mathlib.Core.Path.{_≡_, refl, ap, sym, _∙_}
-use mathlib.Core.Bool.{true}
-use Prim.Native.Nat.{_-_, _^_, _≤_}
-use native.Mathlib.Omega.{arith}
-use borrow.Author.Needs.{needs}
-use lib.ListN.{length}
-use Rattle.zones.specs.Cells.{answer, closeOf}
+-- `closing::close` meets its contract. Before pivot p the cells are those after the pivots before it.
+use Rattle.closing.specs.Closing.{pivots-ranged, pivots-more, pivots-stop, pivots-all}
 use Rattle.zones.specs.Building.{ranged-wider}
-use Rattle.closing.specs.Closing.{close-ranged, close-none, close-more, close-stops}
+use Rattle.zones.specs.Cells.{matrix}
+use Rattle.zones.specs.Matrix.{Pivots, start}
+use lib.ListN.{length}
+use Prim.Native.Nat.{_-_, _^_, _≤_}
+use mathlib.Core.Path.{_≡_}
+use borrow.Author.Needs.{needs}
+use native.Mathlib.Omega.{arith}
 use Rattle.closing.proofs.close.Statement.{statement}
 use Rattle.closing.proofs.close.Tie as tie
 
 abbrev Inv-loop : tie.InvT-loop
-Inv-loop cells₀ from to p₀ cells p =
-    (from ≤ p) × (p ≤ to) × (length cells ≡ 441) × (closeOf from p cells₀ ≡ answer true cells)
+Inv-loop cells₀ from size p₀ cells p =
+    (from ≤ p) × (p ≤ size) × (length cells ≡ 441) × Pivots size from (matrix cells₀) p (matrix cells)
 
 abbrev μ-loop : tie.MeasureT-loop
-μ-loop cells₀ from to p₀ cells p = to - p
+μ-loop cells₀ from size p₀ cells p = size - p
 
 loop-holds : tie.Need-loop-holds Inv-loop μ-loop
 loop-holds c =
     let s = c .before in
-    (search needs, s .pre .0, s .pre .2 .full, close-none (s .args .from) _ _ (omega arith))
+    (search needs, s .pre .0, s .pre .2 .full, start {k = s .args .from} (omega arith))
 
 mul-if1 : tie.Need-mul-if1 Inv-loop μ-loop
 mul-if1 c = search needs
@@ -42,17 +42,16 @@ returns : tie.Need-returns Inv-loop μ-loop
 returns c =
     let h = c .before .before .before in
     let s = h .before .before in
-    close-stops (s .args .from) _ (h .loop .p) (h .loop .cells) (h .loop .inv .0) (h .loop .inv .3) (omega arith)
-    (s .args .to) (omega arith)
+    pivots-stop (omega arith) (s .pre .1) (s .pre .2) _ _ _ (h .loop .inv .2) (h .loop .inv .3) (omega arith) (omega arith)
 
 pivot-requires : tie.Need-pivot-requires Inv-loop μ-loop
 pivot-requires c κs =
     let h = c .before .before .before .before in
     let s = h .before .before in (
+      s .pre .1,
       omega arith,
       ranged-wider (2 ^ 57) (omega arith)
-          (close-ranged (2 ^ 52) _ (omega arith) (s .pre .2) (s .args .from) (h .loop .p) true (h .loop .cells)
-          (h .loop .inv .3) (omega arith) refl),
+          (pivots-ranged (omega arith) (s .pre .1) (s .pre .2) _ _ _ (h .loop .inv .2) (h .loop .inv .3) (omega arith)),
       omega arith,
     )
 
@@ -69,8 +68,8 @@ loop-again c =
       search needs,
       search needs,
       search needs,
-      close-more (s .args .from) _ (h .loop .p) (h .loop .cells) (h .loop .inv .0) (h .loop .inv .3) (omega arith)
-          ∙ ap (answer true) (sym (c .before .before .pivot .ensures)),
+      pivots-more (omega arith) (s .pre .1) (s .pre .2) _ _ _ (h .loop .inv .2) (h .loop .inv .3) (omega arith)
+          (h .loop .inv .0) (omega arith) _ (c .before .before .pivot .ensures),
     )
 
 same-length-2 : tie.Need-same-length-2 Inv-loop μ-loop
@@ -79,8 +78,8 @@ same-length-2 c = search needs
 returns-2 : tie.Need-returns-2 Inv-loop μ-loop
 returns-2 c =
     let h = c .before in
-    let e : h .loop .p ≡ h .before .before .args .to = omega arith in
-    rw (← e) (h .loop .inv .3)
+    let e : h .loop .p ≡ h .before .before .args .size = omega arith in
+    pivots-all (rw e at (h .loop .inv .3))
 
 pub close-spec : {M : Type 1} → statement M
 close-spec =

@@ -1,26 +1,28 @@
 -- `closing::pivot` meets its contract. The rows passed are pivoted; the measure is what is left.
-use mathlib.Core.Path.{_≡_}
+use Rattle.closing.specs.Rows.{RowsTo, rows-none, rows-ready, rows-more}
 use Prim.Native.Nat.{_-_, _≤_}
-use Rattle.closing.specs.Rows.{RowsTo, rows-none, rows-ready, rows-more, rows-all}
+use mathlib.Core.Path.{_≡_}
 use borrow.Author.Needs.{needs}
 use native.Mathlib.Omega.{arith}
 use Rattle.closing.proofs.pivot.Statement.{statement}
 use Rattle.closing.proofs.pivot.Tie as tie
 
 abbrev Inv-loop : tie.InvT-loop
-Inv-loop cells₀ p a₀ cells a = (a ≤ 21) × RowsTo p a cells₀ cells
+Inv-loop cells₀ p size a₀ cells a = (a ≤ size) × RowsTo size p a cells₀ cells
 
 abbrev μ-loop : tie.MeasureT-loop
-μ-loop cells₀ p a₀ cells a = 21 - a
+μ-loop cells₀ p size a₀ cells a = size - a
 
 loop-holds : tie.Need-loop-holds Inv-loop μ-loop
-loop-holds c = (search needs, rows-none _ _ (c .before .pre .1 .full))
+loop-holds c =
+    let s = c .before in
+    (search needs, rows-none _ _ (s .pre .0) (s .pre .1) (s .pre .2) (s .pre .3))
 
 pivot-row-requires : tie.Need-pivot-row-requires Inv-loop μ-loop
 pivot-row-requires c κs =
     let h = c .before .before in
     let s = h .before .before in
-    rows-ready _ _ (s .pre .0) (s .pre .1) (s .pre .2) _ _ (h .loop .inv .1) (omega arith)
+    rows-ready _ _ (s .pre .0) (s .pre .1) (s .pre .2) (s .pre .3) _ _ (h .loop .inv .1) (omega arith)
 
 add-a : tie.Need-add-a Inv-loop μ-loop
 add-a c = search needs
@@ -33,7 +35,7 @@ loop-again c =
     let h = c .before .before .before .before .before in
     let s = h .before .before in (
       search needs,
-      rows-more _ _ (s .pre .0) (s .pre .1) (s .pre .2) _ _ (h .loop .inv .1) _
+      rows-more _ _ (s .pre .0) (s .pre .1) (s .pre .2) (s .pre .3) _ _ (h .loop .inv .1) (omega arith) _
           (c .before .before .pivot-row .ensures),
     )
 
@@ -43,8 +45,8 @@ same-length c = search needs
 returns : tie.Need-returns Inv-loop μ-loop
 returns c =
     let h = c .before in
-    let e : h .loop .a ≡ 21 = omega arith in
-    rows-all _ _ _ (rw e at (h .loop .inv .1))
+    let e : h .loop .a ≡ h .before .before .args .size = omega arith in
+    rw e at (h .loop .inv .1)
 
 pub pivot-spec : {M : Type 1} → statement M
 pivot-spec =

@@ -1,19 +1,19 @@
 -- `closing::pivot_row` meets its contract. The columns passed are pivoted; the measure is what is left.
-use mathlib.Core.Path.{_≡_, refl}
-use Prim.Native.Nat.{_-_, _≤_}
-use Rattle.zones.specs.Cells.{cell}
 use Rattle.closing.specs.Rows.{RowTo, RowReady, row-none, row-asks, row-more, row-same}
+use Rattle.zones.specs.Cells.{cell}
+use Prim.Native.Nat.{_-_, _≤_}
+use mathlib.Core.Path.{_≡_, refl}
 use borrow.Author.Needs.{needs}
 use native.Mathlib.Omega.{arith}
 use Rattle.closing.proofs.pivot_row.Statement.{statement}
 use Rattle.closing.proofs.pivot_row.Tie as tie
 
 abbrev Inv-loop : tie.InvT-loop
-Inv-loop cells₀ a p first b₀ cells b =
-    (b ≤ 21) × (first ≡ cell cells₀ a p) × RowReady a p cells₀ × RowTo a p b cells₀ cells
+Inv-loop cells₀ a p size first b₀ cells b =
+    (b ≤ size) × (first ≡ cell cells₀ a p) × RowReady size a p cells₀ × RowTo size a p b cells₀ cells
 
 abbrev μ-loop : tie.MeasureT-loop
-μ-loop cells₀ a p first b₀ cells b = 21 - b
+μ-loop cells₀ a p size first b₀ cells b = size - b
 
 mul-first : tie.Need-mul-first Inv-loop μ-loop
 mul-first c = search needs
@@ -28,12 +28,12 @@ slice-read-first : tie.Need-slice-read-first Inv-loop μ-loop
 slice-read-first c = search needs
 
 returns : tie.Need-returns Inv-loop μ-loop
-returns c = row-same _ _ _ (c .before .before .before .pre) (c .if1 .taken)
+returns c = row-same (c .before .before .before .pre) (c .if1 .taken)
 
 loop-holds : tie.Need-loop-holds Inv-loop μ-loop
 loop-holds c =
     let s = c .before .before .before in
-    (search needs, refl, s .pre, row-none _ _ _ (s .pre .full))
+    (search needs, refl, s .pre, row-none (s .pre))
 
 mul-old : tie.Need-mul-old Inv-loop μ-loop
 mul-old c = search needs
@@ -62,7 +62,7 @@ slice-read-second c = search needs
 sum-requires : tie.Need-sum-requires Inv-loop μ-loop
 sum-requires c κs =
     let h = c .before .before .before in
-    row-asks _ _ _ _ _ (h .loop .inv .2) (omega arith) (h .loop .inv .3)
+    row-asks (h .loop .inv .2) _ (omega arith) _ (h .loop .inv .3)
 
 tighter-requires : tie.Need-tighter-requires Inv-loop μ-loop
 tighter-requires c κs = search needs
@@ -88,12 +88,8 @@ loop-less c = search needs
 loop-again : tie.Need-loop-again Inv-loop μ-loop
 loop-again c =
     let h = c .before .before .before .before .before in
-    let i = h .loop .inv in (
-      search needs,
-      search needs,
-      i .2,
-      row-more _ _ _ _ _ _ (i .2 .row-fits) (i .2 .pivot-fits) (omega arith) (i .3) (cc),
-    )
+    let i = h .loop .inv in
+    (search needs, search needs, i .2, row-more (i .2) _ (omega arith) _ (i .3) _ (cc))
 
 same-length : tie.Need-same-length Inv-loop μ-loop
 same-length c = search needs
@@ -101,7 +97,7 @@ same-length c = search needs
 returns-2 : tie.Need-returns-2 Inv-loop μ-loop
 returns-2 c =
     let h = c .before in
-    let e : h .loop .b ≡ 21 = omega arith in
+    let e : h .loop .b ≡ h .before .before .before .before .args .size = omega arith in
     rw e at (h .loop .inv .3)
 
 pub pivot-row-spec : {M : Type 1} → statement M

@@ -4,7 +4,8 @@ use mathlib.Core.Path.{_≡_, sym, ap, _∙_}
 use Prim.Native.Nat.{_-_}
 use lib.ListN.{length}
 use Rattle.wire.specs.Records.{recordsAt}
-use Rattle.decode.specs.Fill.{empty, filled}
+use Rattle.filling.specs.Filling.{empty}
+use Rattle.decode.specs.Fill.{filled}
 use Rattle.decode.specs.Laws.{filled-on, filled-out}
 use Rattle.decode.proofs.fill.Statement.{statement}
 use Rattle.decode.proofs.fill.Tie as tie

@@ -33,11 +33,17 @@ add-byte-at-4 c = search needs
 byte-at-requires-4 : tie.Need-byte-at-requires-4
 byte-at-requires-4 c κs = search needs
 
+cast-t9 : tie.Need-cast-t9
+cast-t9 c = search needs
+
 mul-t7 : tie.Need-mul-t7
 mul-t7 c = search needs
 
 add-t8 : tie.Need-add-t8
 add-t8 c = search needs
+
+cast-t10 : tie.Need-cast-t10
+cast-t10 c = search needs
 
 returns : tie.Need-returns
 returns c =
@@ -63,6 +69,8 @@ guard-at-spec =
     byte-at-requires-3
     add-byte-at-4
     byte-at-requires-4
+    cast-t9
     mul-t7
     add-t8
+    cast-t10
     returns)

@@ -1,9 +1,5 @@
 -- `joins::join` meets its contract: it glues and closes.
-use mathlib.Core.Path.{sym, subst}
-use Prim.Native.Nat.{_^_}
-use Rattle.zones.specs.Cells.{Ranged}
-use Rattle.joins.specs.Gluing.{glue-ranged}
-use Rattle.joins.specs.Joining.{join-is}
+use Rattle.joins.specs.Joining.{glued-ranged, glued-joins}
 use borrow.Author.Needs.{needs}
 use Rattle.joins.proofs.join.Statement.{statement}
 use Rattle.joins.proofs.join.Tie as tie
@@ -11,25 +7,35 @@ use Rattle.joins.proofs.join.Tie as tie
 glue-requires : tie.Need-glue-requires
 glue-requires c κs = search needs
 
-slice-aggregate-close : tie.Need-slice-aggregate-close
-slice-aggregate-close c = search needs
+add-close : tie.Need-add-close
+add-close c = search needs
+
+add-close-2 : tie.Need-add-close-2
+add-close-2 c = search needs
+
+add-close-3 : tie.Need-add-close-3
+add-close-3 c = search needs
 
 close-requires : tie.Need-close-requires
 close-requires c κs =
-    let g = c .before .before in
-    let s = g .before in (
+    let g = c .before .before .before in
+    let s = g .before .before .before .before in (
       search needs,
       search needs,
-      subst (Ranged (2 ^ 52)) (sym (g .glue .ensures))
-          (glue-ranged (2 ^ 52) (s .args .a .cells) (s .args .b .cells) (s .pre .0) (s .pre .1)),
+      glued-ranged (s .args .side) (g .glue .ensures) (s .pre .5) (s .pre .6),
     )
+
+same-length : tie.Need-same-length
+same-length c = search needs
 
 returns : tie.Need-returns
 returns c =
-    let d = c .before in
-    let g = d .before .before .before in
-    let s = g .before in
-    join-is (s .args .a .cells) (s .args .b .cells) _ _ _ (g .glue .ensures) (d .close .ensures)
+    let d = c .before .before in
+    let g = d .before .before .before .before in
+    let s = g .before .before .before .before in
+    glued-joins (s .args .side) (g .glue .ensures) (s .pre .5) (s .pre .6) _ _ (d .close .ensures)
 
 pub join-spec : {M : Type 1} → statement M
-join-spec = tie.close (tie.spec glue-requires slice-aggregate-close close-requires returns)
+join-spec =
+    tie.close
+    (tie.spec glue-requires add-close add-close-2 add-close-3 close-requires same-length returns)

@@ -4,8 +4,8 @@ use Prim.Native.Nat.{_≤_, _<_}
 use native.Mathlib.Omega.{arith}
 use lib.ListN.{length}
 use Rattle.numbers.specs.Numbers.{demandsNumbers}
-use Rattle.numbers.specs.Answered.{answered}
-use Rattle.numbers.specs.Answered.{short, roomy-yes, answered-short}
+use Rattle.answers.specs.Answered.{answered}
+use Rattle.answers.specs.Answered.{short, roomy-yes, answered-short}
 use Rattle.judge.specs.Row.{row-short, row-roomy}
 use borrow.Author.Needs.{needs}
 use Rattle.judge.proofs.judge_demands.Statement.{statement}

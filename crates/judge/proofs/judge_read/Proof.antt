@@ -3,9 +3,9 @@ use mathlib.Core.Path.{ap, _∙_}
 use Prim.Native.Nat.{_≤_, _<_}
 use native.Mathlib.Omega.{arith}
 use lib.ListN.{length}
-use Rattle.numbers.specs.Numbers.{readNumbers}
-use Rattle.numbers.specs.Answered.{answered}
-use Rattle.numbers.specs.Answered.{short, roomy-yes, answered-short}
+use Rattle.answers.specs.Four.{readNumbers}
+use Rattle.answers.specs.Answered.{answered}
+use Rattle.answers.specs.Answered.{short, roomy-yes, answered-short}
 use borrow.Author.Needs.{needs}
 use Rattle.judge.proofs.judge_read.Statement.{statement}
 use Rattle.judge.proofs.judge_read.Tie as tie

@@ -3,8 +3,8 @@ use mathlib.Core.Path.{refl, ap, _∙_}
 use Prim.Native.Nat.{_≤_, _<_}
 use native.Mathlib.Omega.{arith}
 use lib.ListN.{length}
-use Rattle.numbers.specs.Answered.{answered}
-use Rattle.numbers.specs.Answered.{short, roomy-yes}
+use Rattle.answers.specs.Answered.{answered}
+use Rattle.answers.specs.Answered.{short, roomy-yes}
 use borrow.Author.Needs.{needs}
 use Rattle.judge.proofs.judge_rounds.Statement.{statement}
 use Rattle.judge.proofs.judge_rounds.Tie as tie

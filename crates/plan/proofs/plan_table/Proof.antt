@@ -1,7 +1,6 @@
 -- The refusal is that of the tests, and the answer that of the solution.
 use mathlib.Core.Path.{refl, sym, _∙_}
-use Rattle.plan.specs.Admit.{meets-refused}
-use Rattle.plan.specs.Trimmed.{trim-ready, trim-meets}
+use Rattle.plan.specs.Admit.{meets-refused, meets-accepted, admit-sized}
 use borrow.Author.Needs.{needs}
 use Rattle.plan.proofs.plan_table.Statement.{statement}
 use Rattle.plan.proofs.plan_table.Tie as tie
@@ -15,15 +14,9 @@ enum-known-admission c = search needs
 enum-told : tie.Need-enum-told
 enum-told c = search needs
 
-trim-requires : tie.Need-trim-requires
-trim-requires c κs = c .before .before .before .before .before .before .pre .good
-
-solve-here-requires : tie.Need-solve-here-requires
-solve-here-requires c κs =
-    let m = c .before .before .before in
-    let e = m .before in
-    trim-ready _ _ (m .trim .ensures) _ (e .before .before .before .before .before .before .pre) _
-    (sym (e .before .before .admit .ensures) ∙ e .enum-told .given .1)
+plan-rounds-requires : tie.Need-plan-rounds-requires
+plan-rounds-requires c κs =
+    admit-sized _ _ _ (c .before .before .before .before .before .before .before .before .before .pre) (sym (c .before .before .before .before .before .admit .ensures) ∙ c .before .before .before .enum-told .given .1)
 
 returns : tie.Need-returns
 returns c =
@@ -41,10 +34,7 @@ same-length-3 c = search needs
 returns-2 : tie.Need-returns-2
 returns-2 c =
     let o = c .before .before .before .before .before .before in
-    let m = o .before .before .before .before in
-    let e = m .before in
-    trim-meets _ _ (m .trim .ensures) _ (e .before .before .before .before .before .before .pre) _
-    (sym (e .before .before .admit .ensures) ∙ e .enum-told .given .1) _ (o .solve-here .result) (o .solve-here .ensures)
+    meets-accepted _ _ _ _ _ (o .plan-rounds .result) (sym (o .before .before .before .before .before .before .admit .ensures) ∙ o .before .before .before .before .enum-told .given .1) (o .plan-rounds .ensures)
 
 pub plan-table-spec : {M : Type 1} → statement M
 plan-table-spec =
@@ -53,8 +43,7 @@ plan-table-spec =
     admit-requires
     enum-known-admission
     enum-told
-    trim-requires
-    solve-here-requires
+    plan-rounds-requires
     returns
     same-length
     same-length-2

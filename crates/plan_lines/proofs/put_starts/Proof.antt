@@ -7,8 +7,7 @@ use Prim.Native.Nat.{ℕ, suc, _+_, _*_, _-_, _≤_}
 use native.Mathlib.Numerals.{add-one}
 use lib.ListN.{length, getD}
 use Rattle.text.specs.Over.{Written, written-none, written-then, written-as}
-use Rattle.plan.specs.Answer.{startsIn}
-use Rattle.plan_lines.specs.PlanLines.{startLine, startLines}
+use Rattle.plan_lines.specs.PlanLines.{numberIn, startLine, startLines}
 use Rattle.plan_lines.proofs.put_starts.Statement.{statement}
 use Rattle.plan_lines.proofs.put_starts.Tie as tie
 
@@ -17,22 +16,22 @@ unfolding startLines
 none l at s = written-none l at
 
 -- one clock more
-more : {l m k : List ℕ} {at a r : ℕ} (starts : List ℕ) (j : ℕ) → Written l at (startLines (startsIn starts) j) m a
-    → Written m a (startLine (j + 1) (getD starts j 0)) k r → Written l at (startLines (startsIn starts) (j + 1)) k r
+more : {l m k : List ℕ} {at a r : ℕ} (starts : List ℕ) (j : ℕ) → Written l at (startLines (numberIn starts) j) m a
+    → Written m a (startLine (j + 1) (getD starts j 0)) k r → Written l at (startLines (numberIn starts) (j + 1)) k r
 unfolding startLines
 more starts j w x = written-as last (written-then w x)
   where
     less : j ≡ suc j - 1
     less = omega arith
 
-    last : startLines (startsIn starts) j ++ startLine (j + 1) (getD starts j 0) ≡ startLines (startsIn starts) (j + 1)
+    last : startLines (numberIn starts) j ++ startLine (j + 1) (getD starts j 0) ≡ startLines (numberIn starts) (j + 1)
     last =
-        rw (add-one j) (ap (λ (i : ℕ). startLines (startsIn starts) j ++ startLine (suc j) (getD starts i 0)) less)
+        rw (add-one j) (ap (λ (i : ℕ). startLines (numberIn starts) j ++ startLine (suc j) (getD starts i 0)) less)
 
 abbrev Inv-loop : tie.InvT-loop
 Inv-loop out₀ at starts n next₀ j₀ out next j =
     (j ≤ n) × (next ≤ at + 51 * j) × (length out ≡ length out₀)
-    × Written out₀ at (startLines (startsIn starts) j) out next
+    × Written out₀ at (startLines (numberIn starts) j) out next
 
 abbrev μ-loop : tie.MeasureT-loop
 μ-loop out₀ at starts n next₀ j₀ out next j = n - j

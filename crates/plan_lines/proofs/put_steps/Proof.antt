@@ -2,14 +2,13 @@
 use native.Mathlib.Omega.{arith}
 use borrow.Author.Needs.{needs}
 use mathlib.Core.Path.{_≡_, refl, ap}
-use mathlib.Core.List.{List}
-use Prim.Native.Nat.{ℕ, _+_, _*_, _-_, _/_, _%_, _≤_}
+use mathlib.Core.List.{List, _++_}
+use Prim.Native.Nat.{ℕ, suc, _+_, _*_, _-_, _/_, _%_, _≤_}
 use native.Mathlib.Nat.{div-le-self, mod-le}
 use native.Mathlib.Numerals.{add-one}
 use lib.ListN.{length, getD}
 use Rattle.text.specs.Over.{Written, written-none, written-then, written-as}
-use Rattle.plan.specs.Answer.{momentsIn}
-use Rattle.plan_lines.specs.PlanLines.{stepLine, stepLines}
+use Rattle.plan_lines.specs.PlanLines.{numberIn, stepLine, stepLines}
 use Rattle.plan_lines.proofs.put_steps.Statement.{statement}
 use Rattle.plan_lines.proofs.put_steps.Tie as tie
 
@@ -18,16 +17,23 @@ unfolding stepLines
 none l at L t = written-none l at
 
 -- one step more
-more : {l m k : List ℕ} {at a r : ℕ} (L : ℕ) (times : List ℕ) (i : ℕ) → Written l at (stepLines L (momentsIn times) i) m a
+more : {l m k : List ℕ} {at a r : ℕ} (L : ℕ) (times : List ℕ) (i : ℕ) → Written l at (stepLines L (numberIn times) i) m a
     → Written m a (stepLine (i / L + 1) (i % L + 1) (getD times i 0)) k r
-    → Written l at (stepLines L (momentsIn times) (i + 1)) k r
+    → Written l at (stepLines L (numberIn times) (i + 1)) k r
 unfolding stepLines
-more L times i w x = rw (add-one i) (written-then w x)
+more L times i w x = written-as last (written-then w x)
+  where
+    less : i ≡ suc i - 1
+    less = omega arith
+
+    last : stepLines L (numberIn times) i ++ stepLine (i / L + 1) (i % L + 1) (getD times i 0) ≡ stepLines L (numberIn times) (i + 1)
+    last =
+        rw (add-one i) (ap (λ (j : ℕ). stepLines L (numberIn times) i ++ stepLine (i / L + 1) (i % L + 1) (getD times j 0)) less)
 
 abbrev Inv-loop : tie.InvT-loop
 Inv-loop out₀ at times steps total next₀ i₀ out next i =
     (i ≤ total) × (next ≤ at + 77 * i) × (length out ≡ length out₀)
-    × Written out₀ at (stepLines steps (momentsIn times) i) out next
+    × Written out₀ at (stepLines steps (numberIn times) i) out next
 
 abbrev μ-loop : tie.MeasureT-loop
 μ-loop out₀ at times steps total next₀ i₀ out next i = total - i
@@ -71,8 +77,9 @@ loop-less c = search needs
 loop-again : tie.Need-loop-again Inv-loop μ-loop
 loop-again c =
     let l = c .before .before .before .before .before .before .loop in
+    let times = c .before .before .before .before .before .before .before .before .before .args .times .now in
     let line = c .before .before .put-step .ensures .0 in
-    (search needs, search needs, search needs, more _ _ (l .i) (l .inv .3) line)
+    (search needs, search needs, search needs, more _ times (l .i) (l .inv .3) line)
 
 same-length : tie.Need-same-length Inv-loop μ-loop
 same-length c = search needs

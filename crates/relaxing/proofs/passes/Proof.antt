@@ -6,34 +6,31 @@ use Prim.Native.Nat.{_-_}
 use lib.ListN.{length}
 use Rattle.paths.specs.State.{state}
 use borrow.Author.Tests.{not-true, not-false}
-use Rattle.constraints.specs.Sized.{sized-parts}
+use Rattle.relaxing.specs.Rows.{rows, sound-moments}
 use Rattle.relaxing.specs.Ending.{Passing, passing-none, passing-passable, passing-size, more-size, more-searchable}
 use Rattle.relaxing.specs.Ending.{ended-quiet, ended-cycle, passing-more, search-size}
 use Rattle.relaxing.proofs.passes.Statement.{statement}
 use Rattle.relaxing.proofs.passes.Tie as tie
 
 abbrev Inv-loop : tie.InvT-loop
-Inv-loop t k time₀ parent₀ stamp₀ marks₀ n q₀ m₀ time parent stamp marks q m =
-    Passing t k (state time₀ parent₀ stamp₀) m q (state time parent stamp) × (length marks ≡ length marks₀)
+Inv-loop low up far steps clocks total time₀ parent₀ stamp₀ marks₀ n q₀ m₀ time parent stamp marks q m =
+    Passing (rows low up far steps clocks total) (state time₀ parent₀ stamp₀) m q (state time parent stamp) × (length marks ≡ length marks₀)
 
 abbrev μ-loop : tie.MeasureT-loop
-μ-loop t k time₀ parent₀ stamp₀ marks₀ n q₀ m₀ time parent stamp marks q m = n - m
+μ-loop low up far steps clocks total time₀ parent₀ stamp₀ marks₀ n q₀ m₀ time parent stamp marks q m = n - m
 
 -- ---- places: where the passes began, the loop, the pass just made and the search after it
 abbrev entry : tie.At-loop Inv-loop μ-loop → tie.Start Inv-loop μ-loop
-entry c = c .before .before .before .before .before .before .before
+entry c = c .before .before .before .before .before .before .before .before
 
 abbrev head : tie.After-pass Inv-loop μ-loop → tie.At-loop Inv-loop μ-loop
 head c = c .before .before .before .before .before
 
-abbrev swept : tie.After-struct-known3 Inv-loop μ-loop → tie.After-pass Inv-loop μ-loop
+abbrev swept : tie.After-struct-known Inv-loop μ-loop → tie.After-pass Inv-loop μ-loop
 swept c = c .before .before .before .before .before .before .before
 
 abbrev raised : tie.After-find-cycle Inv-loop μ-loop → tie.Else1 Inv-loop μ-loop
 raised c = c .before .before .before .before
-
-mul-n : tie.Need-mul-n Inv-loop μ-loop
-mul-n c = search needs
 
 add-n : tie.Need-add-n Inv-loop μ-loop
 add-n c = search needs
@@ -43,35 +40,35 @@ add-n-2 c = search needs
 
 loop-holds : tie.Need-loop-holds Inv-loop μ-loop
 loop-holds c =
-    let s = c .before .before .before .before .before .before in
-    (passing-none _ _ _ (s .pre .sized) (s .pre .begins), refl)
+    let s = c .before .before .before .before .before .before .before in
+    (passing-none _ _ (s .pre .sound) (s .pre .begins), refl)
 
 pass-requires : tie.Need-pass-requires Inv-loop μ-loop
 pass-requires c κs =
     let s = entry (c .before .before .before .before) in
     let l = c .before .before .before .before .loop in
-    passing-passable _ _ _ (s .pre .sized) (s .pre .begins) _ _ _ (l .inv .0)
+    passing-passable _ _ (s .pre .sound) (s .pre .begins) _ _ _ (l .inv .0)
 
 same-length : tie.Need-same-length Inv-loop μ-loop
 same-length c =
     let p = swept (c .before) in
     let s = entry (head p) in
     let l = head p .loop in
-    more-size _ _ _ (s .pre .sized) (s .pre .begins) _ _ _ (l .inv .0) _ _ _ (p .pass .ensures) .time
+    more-size _ _ (s .pre .sound) (s .pre .begins) _ _ _ (l .inv .0) _ _ _ (p .pass .ensures) .time
 
 same-length-2 : tie.Need-same-length-2 Inv-loop μ-loop
 same-length-2 c =
     let p = swept (c .before) in
     let s = entry (head p) in
     let l = head p .loop in
-    more-size _ _ _ (s .pre .sized) (s .pre .begins) _ _ _ (l .inv .0) _ _ _ (p .pass .ensures) .parent
+    more-size _ _ (s .pre .sound) (s .pre .begins) _ _ _ (l .inv .0) _ _ _ (p .pass .ensures) .parent
 
 same-length-3 : tie.Need-same-length-3 Inv-loop μ-loop
 same-length-3 c =
     let p = swept (c .before) in
     let s = entry (head p) in
     let l = head p .loop in
-    more-size _ _ _ (s .pre .sized) (s .pre .begins) _ _ _ (l .inv .0) _ _ _ (p .pass .ensures) .stamp
+    more-size _ _ (s .pre .sound) (s .pre .begins) _ _ _ (l .inv .0) _ _ _ (p .pass .ensures) .stamp
 
 same-length-4 : tie.Need-same-length-4 Inv-loop μ-loop
 same-length-4 c =
@@ -82,7 +79,7 @@ returns c =
     let p = swept (c .before) in
     let s = entry (head p) in
     let l = head p .loop in
-    ended-quiet _ _ _ (s .pre .sized) (s .pre .begins) _ _ _ (l .inv .0) _ _ _ (p .pass .ensures)
+    ended-quiet _ _ (s .pre .sound) (s .pre .begins) _ _ _ (l .inv .0) _ _ _ (p .pass .ensures)
     (not-true _ (c .if1 .taken))
 
 find-cycle-requires : tie.Need-find-cycle-requires Inv-loop μ-loop
@@ -90,7 +87,7 @@ find-cycle-requires c κs =
     let p = swept (c .before .before .before .before) in
     let s = entry (head p) in
     let l = head p .loop in
-    more-searchable _ _ _ (s .pre .sized) (s .pre .begins) _ _ _ (l .inv .0) _ _ _ (p .pass .ensures) _
+    more-searchable _ _ (s .pre .sound) (s .pre .begins) _ _ _ (l .inv .0) _ _ _ (p .pass .ensures) _
     (omega (arith, s .pre .room, l .inv .1))
 
 same-length-5 : tie.Need-same-length-5 Inv-loop μ-loop
@@ -99,7 +96,7 @@ same-length-5 c =
     let p = swept (raised f .before) in
     let s = entry (head p) in
     let l = head p .loop in
-    more-size _ _ _ (s .pre .sized) (s .pre .begins) _ _ _ (l .inv .0) _ _ _ (p .pass .ensures) .time
+    more-size _ _ (s .pre .sound) (s .pre .begins) _ _ _ (l .inv .0) _ _ _ (p .pass .ensures) .time
 
 same-length-6 : tie.Need-same-length-6 Inv-loop μ-loop
 same-length-6 c =
@@ -107,7 +104,7 @@ same-length-6 c =
     let p = swept (raised f .before) in
     let s = entry (head p) in
     let l = head p .loop in
-    more-size _ _ _ (s .pre .sized) (s .pre .begins) _ _ _ (l .inv .0) _ _ _ (p .pass .ensures) .parent
+    more-size _ _ (s .pre .sound) (s .pre .begins) _ _ _ (l .inv .0) _ _ _ (p .pass .ensures) .parent
 
 same-length-7 : tie.Need-same-length-7 Inv-loop μ-loop
 same-length-7 c =
@@ -115,7 +112,7 @@ same-length-7 c =
     let p = swept (raised f .before) in
     let s = entry (head p) in
     let l = head p .loop in
-    more-size _ _ _ (s .pre .sized) (s .pre .begins) _ _ _ (l .inv .0) _ _ _ (p .pass .ensures) .stamp
+    more-size _ _ (s .pre .sound) (s .pre .begins) _ _ _ (l .inv .0) _ _ _ (p .pass .ensures) .stamp
 
 same-length-8 : tie.Need-same-length-8 Inv-loop μ-loop
 same-length-8 c =
@@ -131,7 +128,7 @@ returns-2 c =
     let p = swept (raised f .before) in
     let s = entry (head p) in
     let l = head p .loop in
-    ended-cycle _ _ _ (s .pre .sized) (s .pre .begins) _ _ _ (l .inv .0) _ _ _ (p .pass .ensures) _ _ _
+    ended-cycle _ _ (s .pre .sound) (s .pre .begins) _ _ _ (l .inv .0) _ _ _ (p .pass .ensures) _ _ _
     (f .find-cycle .ensures) (c .if2 .taken)
 
 add-m : tie.Need-add-m Inv-loop μ-loop
@@ -140,9 +137,9 @@ add-m c =
     let p = swept (raised f .before) in
     let s = entry (head p) in
     let l = head p .loop in
-    let p = passing-more _ _ _ (s .pre .sized) (s .pre .begins) _ _ _ (l .inv .0) _ _ _ (p .pass .ensures) _ _ _
+    let p = passing-more _ _ (s .pre .sound) (s .pre .begins) _ _ _ (l .inv .0) _ _ _ (p .pass .ensures) _ _ _
     (f .find-cycle .ensures) (not-false _ (raised f .if1 .left)) (c .if2 .left) in
-    omega (arith, p .few, sized-parts _ _ (s .pre .sized))
+    omega (arith, p .few, sound-moments _ (s .pre .sound))
 
 loop-less : tie.Need-loop-less Inv-loop μ-loop
 loop-less c =
@@ -150,7 +147,7 @@ loop-less c =
     let p = swept (raised f .before) in
     let s = entry (head p) in
     let l = head p .loop in
-    let p = passing-more _ _ _ (s .pre .sized) (s .pre .begins) _ _ _ (l .inv .0) _ _ _ (p .pass .ensures) _ _ _
+    let p = passing-more _ _ (s .pre .sound) (s .pre .begins) _ _ _ (l .inv .0) _ _ _ (p .pass .ensures) _ _ _
     (f .find-cycle .ensures) (not-false _ (raised f .if1 .left)) (c .if2 .left) in
     omega (arith, p .few)
 
@@ -160,7 +157,7 @@ loop-again c =
     let p = swept (raised f .before) in
     let s = entry (head p) in
     let l = head p .loop in (
-      passing-more _ _ _ (s .pre .sized) (s .pre .begins) _ _ _ (l .inv .0) _ _ _ (p .pass .ensures) _ _ _
+      passing-more _ _ (s .pre .sound) (s .pre .begins) _ _ _ (l .inv .0) _ _ _ (p .pass .ensures) _ _ _
           (f .find-cycle .ensures) (not-false _ (raised f .if1 .left)) (c .if2 .left),
       search-size _ _ _ _ _ _
           (omega (arith, s .pre .room, l .inv .1)) (f .find-cycle .ensures) ∙ l .inv .1,
@@ -170,19 +167,19 @@ same-length-9 : tie.Need-same-length-9 Inv-loop μ-loop
 same-length-9 c =
     let s = entry (c .before) in
     let l = c .before .loop in
-    passing-size _ _ _ (s .pre .sized) (s .pre .begins) _ _ _ (l .inv .0) .time
+    passing-size _ _ (s .pre .sound) (s .pre .begins) _ _ _ (l .inv .0) .time
 
 same-length-10 : tie.Need-same-length-10 Inv-loop μ-loop
 same-length-10 c =
     let s = entry (c .before) in
     let l = c .before .loop in
-    passing-size _ _ _ (s .pre .sized) (s .pre .begins) _ _ _ (l .inv .0) .parent
+    passing-size _ _ (s .pre .sound) (s .pre .begins) _ _ _ (l .inv .0) .parent
 
 same-length-11 : tie.Need-same-length-11 Inv-loop μ-loop
 same-length-11 c =
     let s = entry (c .before) in
     let l = c .before .loop in
-    passing-size _ _ _ (s .pre .sized) (s .pre .begins) _ _ _ (l .inv .0) .stamp
+    passing-size _ _ (s .pre .sound) (s .pre .begins) _ _ _ (l .inv .0) .stamp
 
 same-length-12 : tie.Need-same-length-12 Inv-loop μ-loop
 same-length-12 c =
@@ -198,7 +195,6 @@ passes-spec =
     (tie.spec
     Inv-loop
     μ-loop
-    mul-n
     add-n
     add-n-2
     loop-holds

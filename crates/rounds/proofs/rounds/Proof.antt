@@ -1,5 +1,6 @@
 -- `rounds::rounds` meets its contract: the reader's refusal, or the count of the table that the bytes write down.
-use Rattle.rounds.specs.Asking.{answers-refused, accepted-good, answers-counted}
+use Rattle.wire.specs.Records.{Bytes}
+use Rattle.rounds.specs.Asking.{answers-refused, accepted-good, accepted-uses, answers-counted}
 use borrow.Author.Needs.{needs}
 use native.Mathlib.Omega.{arith}
 use Rattle.rounds.proofs.rounds.Statement.{statement}
@@ -17,9 +18,12 @@ enum-told c = search needs
 rounds-of-requires : tie.Need-rounds-of-requires
 rounds-of-requires c κs =
     let p = c .before .before .before in
-    accepted-good (p .before .before .args .bytes .now) (p .parse .result .answer) (p .parse .ensures .0)
-    (p .parse .result .table) (p .parse .ensures .1)
-    (λ i. omega (arith, p .before .shared-slice-known .given i)) _ _ _ (c .before .enum-told .given .1)
+    let b : Bytes (p .before .before .args .bytes .now) = λ i. omega (arith, p .before .shared-slice-known .given i) in (
+      accepted-good (p .before .before .args .bytes .now) (p .parse .result .answer) (p .parse .ensures .0)
+          (p .parse .result .table) (p .parse .ensures .1) b _ _ _ (c .before .enum-told .given .1),
+      accepted-uses (p .before .before .args .bytes .now) (p .parse .result .answer) (p .parse .ensures .0)
+          (p .parse .result .table) (p .parse .ensures .1) b _ _ _ (c .before .enum-told .given .1),
+    )
 
 returns : tie.Need-returns
 returns c =

@@ -1,63 +1,108 @@
--- `rounds::rounds_of` meets its contract: one round has no run, or the search goes on from its effect.
-use borrow.Author.Tests.{not-true, not-false}
-use Rattle.table.specs.Step.{stepsOf}
-use Rattle.joins.specs.Round.{round-tells}
-use Rattle.rounds.specs.Climbing.{Rounds}
-use Rattle.rounds.specs.Counting.{good-tabled, starts, starts-free}
+-- `rounds::rounds_of` meets its contract: one round has no run, or the search goes up and down from its effect.
 use Rattle.rounds.specs.Counting.{counts-none, counts-one, counts-endless, counts-finite}
-use Prim.Native.Nat.{_<_}
+use Rattle.climbing.specs.Ways.{down-top}
+use Rattle.effects.specs.Whole.{Side}
+use Rattle.table.specs.Step.{stepsOf}
+use borrow.Author.Tests.{not-true, not-false}
+use Prim.Native.Nat.{_+_, _<_}
 use borrow.Author.Needs.{needs}
 use native.Mathlib.Omega.{arith}
 use Rattle.rounds.proofs.rounds_of.Statement.{statement}
 use Rattle.rounds.proofs.rounds_of.Tie as tie
 
-round-effect-requires : tie.Need-round-effect-requires
-round-effect-requires c κs = search needs
+side : (c : tie.Start) → Side (c .args .t .clocks + 1)
+side c = (omega arith, omega (arith, c .pre .0 .clocks-few))
 
-few : (c : tie.Start) → c .args .t .clocks < 7
-few c = omega (arith, c .pre .clocks-few)
+add-side : tie.Need-add-side
+add-side c = search needs
+
+slice-aggregate-round-effect : tie.Need-slice-aggregate-round-effect
+slice-aggregate-round-effect c = search needs
+
+slice-aggregate-round-effect-2 : tie.Need-slice-aggregate-round-effect-2
+slice-aggregate-round-effect-2 c = search needs
+
+round-effect-requires : tie.Need-round-effect-requires
+round-effect-requires c κs =
+    let s = c .before .before .before in
+    (search needs, search needs, s .pre .0, (omega arith, omega (arith, s .pre .0 .clocks-few)), s .pre .1)
 
 returns : tie.Need-returns
 returns c =
-    let e = c .before .before in
-    let s = e .before in
-    counts-none (s .args .t .clocks) (few s) (stepsOf (s .args .t)) (good-tabled (s .args .t) (s .pre))
-    (e .round-effect .result .ok) (e .round-effect .result .zone .cells)
-    (round-tells (s .args .t) (s .pre) _ _ (e .round-effect .ensures))
-    (not-true _ (c .if1 .taken))
+    let e = c .before .before .before in
+    let s = e .before .before .before .before in
+    counts-none (s .args .t) (s .pre .0) _ _ (e .round-effect .ensures) (not-true _ (c .if1 .taken))
 
-one : (c : tie.Else1)
-    → Rounds (stepsOf (c .before .before .before .args .t)) 1 (c .before .before .round-effect .result .zone .cells)
-one c =
-    let e = c .before .before in
-    let s = e .before in
-    counts-one (s .args .t .clocks) (few s) (stepsOf (s .args .t)) (good-tabled (s .args .t) (s .pre))
-    (e .round-effect .result .ok) (e .round-effect .result .zone .cells)
-    (round-tells (s .args .t) (s .pre) _ _ (e .round-effect .ensures))
-    (not-false _ (c .if1 .left))
+slice-aggregate-up : tie.Need-slice-aggregate-up
+slice-aggregate-up c = search needs
 
-climb-requires : tie.Need-climb-requires
-climb-requires c κs =
-    (search needs, search needs, (stepsOf (c .before .before .before .before .args .t), one (c .before)))
+slice-aggregate-up-2 : tie.Need-slice-aggregate-up-2
+slice-aggregate-up-2 c = search needs
+
+up-requires : tie.Need-up-requires
+up-requires c κs =
+    let i = c .before .before in
+    let e = i .before .before .before in
+    let s = e .before .before .before .before in
+    let one = counts-one (s .args .t) (s .pre .0) (s .args .t .clocks + 1) _ _ (e .round-effect .ensures) (not-false _ (i .if1 .left)) in
+    (search needs, search needs, side s, (stepsOf (s .args .t), one))
 
 returns-2 : tie.Need-returns-2
 returns-2 c =
-    let k = c .before in
-    let s = k .before .before .before .before .before in
-    counts-endless (s .args .t .clocks) (few s) (stepsOf (s .args .t)) (good-tabled (s .args .t) (s .pre))
-    (k .climb .result .endless) (k .climb .result .count) (k .climb .result .zone .cells)
-    (k .climb .ensures .finds (starts (s .args .t .clocks)) (starts-free (s .args .t .clocks)) (stepsOf (s .args .t))
-    (one (k .before .before))) (c .if2 .taken)
+    let u = c .before .before .before in
+    let i = u .before .before .before in
+    let e = i .before .before .before in
+    let s = e .before .before .before .before in
+    let one = counts-one (s .args .t) (s .pre .0) (s .args .t .clocks + 1) _ _ (e .round-effect .ensures) (not-false _ (i .if1 .left)) in
+    counts-endless (s .args .t) (s .pre .0) (u .up .ensures .endless (c .if2 .taken) (stepsOf (s .args .t)) one)
+
+slice-aggregate-down : tie.Need-slice-aggregate-down
+slice-aggregate-down c = search needs
+
+slice-aggregate-down-2 : tie.Need-slice-aggregate-down-2
+slice-aggregate-down-2 c = search needs
+
+down-requires : tie.Need-down-requires
+down-requires c κs =
+    let k = c .before .before in
+    let u = k .before .before .before in
+    let i = u .before .before .before in
+    let e = i .before .before .before in
+    let s = e .before .before .before .before in
+    let one = counts-one (s .args .t) (s .pre .0) (s .args .t .clocks + 1) _ _ (e .round-effect .ensures) (not-false _ (i .if1 .left)) in
+    let low : u .up .result .place < 24 = omega (arith, u .up .ensures .low, k .if2 .left) in
+    let top = down-top (s .args .t .clocks + 1) (stepsOf (s .args .t)) _ _ _ low (u .up .ensures .is (k .if2 .left))
+    (u .up .ensures .top (k .if2 .left) (stepsOf (s .args .t)) one) in
+    (search needs, search needs, side s, low, u .up .ensures .is (k .if2 .left), (stepsOf (s .args .t), top))
 
 returns-3 : tie.Need-returns-3
 returns-3 c =
-    let k = c .before in
-    let s = k .before .before .before .before .before in
-    counts-finite (s .args .t .clocks) (few s) (stepsOf (s .args .t)) (good-tabled (s .args .t) (s .pre))
-    (k .climb .result .endless) (k .climb .result .count) (k .climb .result .zone .cells)
-    (k .climb .ensures .finds (starts (s .args .t .clocks)) (starts-free (s .args .t .clocks)) (stepsOf (s .args .t))
-    (one (k .before .before))) (c .if2 .left)
+    let d = c .before .before in
+    let k = d .before .before .before in
+    let u = k .before .before .before in
+    let i = u .before .before .before in
+    let e = i .before .before .before in
+    let s = e .before .before .before .before in
+    let one = counts-one (s .args .t) (s .pre .0) (s .args .t .clocks + 1) _ _ (e .round-effect .ensures) (not-false _ (i .if1 .left)) in
+    let low : u .up .result .place < 24 = omega (arith, u .up .ensures .low, k .if2 .left) in
+    let top = down-top (s .args .t .clocks + 1) (stepsOf (s .args .t)) _ _ _ low (u .up .ensures .is (k .if2 .left))
+    (u .up .ensures .top (k .if2 .left) (stepsOf (s .args .t)) one) in
+    counts-finite (s .args .t) (s .pre .0) (s .args .t .clocks + 1) _ _ _ (d .down .ensures (stepsOf (s .args .t)) top)
 
 pub rounds-of-spec : {M : Type 1} → statement M
 rounds-of-spec =
-    tie.close (tie.spec round-effect-requires returns climb-requires returns-2 returns-3)
+    tie.close
+    (tie.spec
+    add-side
+    slice-aggregate-round-effect
+    slice-aggregate-round-effect-2
+    round-effect-requires
+    returns
+    slice-aggregate-up
+    slice-aggregate-up-2
+    up-requires
+    returns-2
+    slice-aggregate-down
+    slice-aggregate-down-2
+    down-requires
+    returns-3)

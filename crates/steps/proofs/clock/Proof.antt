@@ -31,8 +31,9 @@ returns c =
     let e = d .before .before .before .before in
     let f = e .before .before .before .before in
     let g = f .before .before in
-    clock-put (g .before .before .args .reset) (g .before .before .args .j) _ _ _ _ _ (g .last .ensures .0)
-    (f .tighten .ensures) (e .tighten2 .ensures) (d .tighten3 .ensures)
+    let a = g .before .before .args in
+    clock-put (a .side) (a .reset) (a .j) _ _ _ _ _ (g .last .ensures .0) (f .tighten .ensures) (e .tighten2 .ensures)
+    (d .tighten3 .ensures)
 
 pub clock-spec : {M : Type 1} → statement M
 clock-spec =

@@ -4,6 +4,12 @@ use borrow.Author.Needs.{needs}
 use Rattle.steps.proofs.guard.Statement.{statement}
 use Rattle.steps.proofs.guard.Tie as tie
 
+cast-j : tie.Need-cast-j
+cast-j c = search needs
+
+cast-c : tie.Need-cast-c
+cast-c c = search needs
+
 mul-c : tie.Need-mul-c
 mul-c c = search needs
 
@@ -65,9 +71,9 @@ returns : tie.Need-returns
 returns c =
     let d = c .before .before in
     let e = d .before .before in
-    let s = e .before .before .before .before in
+    let s = e .before .before .before .before .before in
     rw (e .enum-told .given .1)
-    (under-put (s .args .g .clock) (s .args .g .constant) _ _ (d .tighten .ensures))
+    (under-put (s .args .side) (s .args .g .clock) (s .args .g .constant) _ _ (d .tighten .ensures))
 
 same-length-2 : tie.Need-same-length-2
 same-length-2 c = search needs
@@ -76,9 +82,9 @@ returns-2 : tie.Need-returns-2
 returns-2 c =
     let d = c .before .before in
     let e = d .before .before in
-    let s = e .before .before .before .before in
+    let s = e .before .before .before .before .before in
     rw (e .enum-told2 .given .1)
-    (most-put (s .args .g .clock) (s .args .g .constant) _ _ (d .tighten2 .ensures))
+    (most-put (s .args .side) (s .args .g .clock) (s .args .g .constant) _ _ (d .tighten2 .ensures))
 
 same-length-3 : tie.Need-same-length-3
 same-length-3 c = search needs
@@ -88,9 +94,10 @@ returns-3 c =
     let d = c .before .before in
     let f = d .before .before .before .before in
     let e = f .before .before in
-    let s = e .before .before .before .before in
+    let s = e .before .before .before .before .before in
     rw (e .enum-told3 .given .1)
-    (exactly-put (s .args .g .clock) (s .args .g .constant) _ _ _ (f .tighten3 .ensures) (d .tighten4 .ensures))
+    (exactly-put (s .args .side) (s .args .g .clock) (s .args .g .constant) _ _ _ (f .tighten3 .ensures)
+    (d .tighten4 .ensures))
 
 same-length-4 : tie.Need-same-length-4
 same-length-4 c = search needs
@@ -99,9 +106,9 @@ returns-4 : tie.Need-returns-4
 returns-4 c =
     let d = c .before .before in
     let e = d .before .before in
-    let s = e .before .before .before .before in
+    let s = e .before .before .before .before .before in
     rw (e .enum-told4 .given .1)
-    (least-put (s .args .g .clock) (s .args .g .constant) _ _ (d .tighten5 .ensures))
+    (least-put (s .args .side) (s .args .g .clock) (s .args .g .constant) _ _ (d .tighten5 .ensures))
 
 same-length-5 : tie.Need-same-length-5
 same-length-5 c = search needs
@@ -110,14 +117,16 @@ returns-5 : tie.Need-returns-5
 returns-5 c =
     let d = c .before .before in
     let e = d .before .before in
-    let s = e .before .before .before .before in
+    let s = e .before .before .before .before .before in
     rw (e .enum-told5 .given .1)
-    (over-put (s .args .g .clock) (s .args .g .constant) _ _ (d .tighten6 .ensures))
+    (over-put (s .args .side) (s .args .g .clock) (s .args .g .constant) _ _ (d .tighten6 .ensures))
 
 pub guard-spec : {M : Type 1} → statement M
 guard-spec =
     tie.close
     (tie.spec
+    cast-j
+    cast-c
     mul-c
     enum-told
     add-tighten

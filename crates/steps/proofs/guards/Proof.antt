@@ -1,26 +1,26 @@
 -- `steps::guards` meets its contract. What is left to put in, put into what is there, is what was to be put in.
-use mathlib.Core.Path.{_≡_, refl, _∙_}
-use Prim.Native.Nat.{_≤_, _-_, _+_}
-use lib.ListN.{length, getD}
-use lib.Seq.{slice}
-use Rattle.table.specs.Step.{stepAt}
-use Rattle.runs.specs.Demand.{guardsDemands}
-use Rattle.steps.specs.Puts.{putsOf}
-use Rattle.table.specs.Steps.{guard-fair}
 use Rattle.steps.specs.Fetch.{guards-less, guards-done}
+use Rattle.steps.specs.Puts.{putsOf}
+use Rattle.runs.specs.Demand.{guardsDemands}
+use Rattle.table.specs.Steps.{guard-member, guard-fair}
+use Rattle.table.specs.Step.{stepAt}
+use lib.Seq.{slice}
+use lib.ListN.{length, getD}
+use Prim.Native.Nat.{_≤_, _-_, _+_}
+use mathlib.Core.Path.{_≡_, refl, _∙_}
 use borrow.Author.Needs.{needs}
 use native.Mathlib.Omega.{arith}
 use Rattle.steps.proofs.guards.Statement.{statement}
 use Rattle.steps.proofs.guards.Tie as tie
 
 abbrev Inv-loop : tie.InvT-loop
-Inv-loop i t end cells₀ k₀ cells k =
+Inv-loop cells₀ side i t end k₀ cells k =
     (k₀ ≤ k) × (k ≤ end) × (end ≤ 64) × (length cells ≡ 441)
-    × (putsOf (guardsDemands (slice k end (t .guards)) 7 (λ j. j)) cells
-    ≡ putsOf (guardsDemands (slice k₀ end (t .guards)) 7 (λ j. j)) cells₀)
+    × (putsOf (guardsDemands (slice k end (t .guards)) side (λ j. j)) cells
+    ≡ putsOf (guardsDemands (slice k₀ end (t .guards)) side (λ j. j)) cells₀)
 
 abbrev μ-loop : tie.MeasureT-loop
-μ-loop i t end cells₀ k₀ cells k = end - k
+μ-loop cells₀ side i t end k₀ cells k = end - k
 
 add-end : tie.Need-add-end Inv-loop μ-loop
 add-end c = search needs
@@ -47,9 +47,6 @@ loop-holds c =
       refl,
     )
 
-slice-aggregate-guard : tie.Need-slice-aggregate-guard Inv-loop μ-loop
-slice-aggregate-guard c = search needs
-
 mul-guard : tie.Need-mul-guard Inv-loop μ-loop
 mul-guard c = search needs
 
@@ -60,7 +57,10 @@ guard-requires : tie.Need-guard-requires Inv-loop μ-loop
 guard-requires c κs =
     let h = c .before .before .before in
     let s = h .before .before .before .before in (
-      guard-fair (s .args .t2) (s .args .i) (h .loop .k) _ (s .pre .0) (s .pre .1) (h .loop .inv .0) (omega arith),
+      guard-fair (s .args .t3) (s .args .i) (h .loop .k) _ (s .pre .0) (s .pre .1) (h .loop .inv .0) (omega arith),
+      s .pre .2 .guards _ (guard-member (s .args .t3) (s .args .i) (h .loop .k) _ (h .loop .inv .0) (omega arith)
+          (omega (arith, s .pre .0 .guards-size))),
+      search needs,
       search needs,
     )
 
@@ -72,24 +72,26 @@ loop-less c = search needs
 
 loop-again : tie.Need-loop-again Inv-loop μ-loop
 loop-again c =
-    let h = c .before .before .before .before .before in
+    let h = c .before .before .before .before .before .before in
     let s = h .before .before .before .before in (
       search needs,
       search needs,
       search needs,
       search needs,
-      guards-less (h .loop .k) (getD (s .args .t2 .ends) (s .args .i + 1) 0) (s .args .t2 .guards) _
-          (h .loop .cells) _ (omega arith)
-          (omega (arith, s .pre .0 .guards-size)) (c .before .guard .ensures)
+      guards-less (s .args .side) (h .loop .k) (getD (s .args .t3 .ends) (s .args .i + 1) 0) (s .args .t3 .guards) _
+          (h .loop .cells) _ (omega arith) (omega (arith, s .pre .0 .guards-size)) (c .before .before .guard .ensures)
           ∙ h .loop .inv .4,
     )
+
+same-length : tie.Need-same-length Inv-loop μ-loop
+same-length c = search needs
 
 returns : tie.Need-returns Inv-loop μ-loop
 unfolding stepAt
 returns c =
     let h = c .before in
     let s = h .before .before .before .before in
-    guards-done (h .loop .k) _ (s .args .t2 .guards) (h .loop .cells) (omega arith) (h .loop .inv .1)
+    guards-done (s .args .side) (h .loop .k) _ (s .args .t3 .guards) (h .loop .cells) (omega arith) (h .loop .inv .1)
     ∙ h .loop .inv .4
 
 pub guards-spec : {M : Type 1} → statement M
@@ -104,11 +106,11 @@ guards-spec =
     mul-k
     element-copy-out-k
     loop-holds
-    slice-aggregate-guard
     mul-guard
     element-copy-out-guard
     guard-requires
     add-k
     loop-less
     loop-again
+    same-length
     returns)

@@ -2,7 +2,7 @@
 use borrow.Author.Needs.{needs}
 use mathlib.Core.Path.{sym}
 use native.Mathlib.Omega.{arith}
-use Rattle.wire.specs.Records.{bodySize}
+use Rattle.records.specs.Rules.{bodySize}
 use Rattle.wire.proofs.Bytes.{cut, uncut}
 use Rattle.wire.proofs.body_whole.Statement.{statement}
 use Rattle.wire.proofs.body_whole.Tie as tie

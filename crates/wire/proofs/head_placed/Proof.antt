@@ -1,6 +1,6 @@
 -- `wire::head_placed` meets its contract.
 use borrow.Author.Needs.{needs}
-use Rattle.wire.specs.Tests.{tests}
+use Rattle.records.specs.Tests.{tests}
 use Rattle.wire.proofs.head_placed.Statement.{statement}
 use Rattle.wire.proofs.head_placed.Tie as tie
 

@@ -2,7 +2,7 @@
 use borrow.Author.Needs.{needs}
 use mathlib.Core.Path.{refl, _∙_}
 use Prim.Native.Nat.{_+_, _*_}
-use Rattle.wire.specs.Reading.{guarded}
+use Rattle.records.specs.Rules.{guarded}
 use Rattle.wire.proofs.Bytes.{guard-is}
 use Rattle.wire.proofs.read_guard.Statement.{statement}
 use Rattle.wire.proofs.read_guard.Tie as tie

@@ -4,7 +4,8 @@ use mathlib.Core.Path.{sym, ap, _∙_}
 use Prim.Native.Nat.{_+_}
 use lib.ListN.{drop}
 use Rattle.wire.specs.Records.{recordAt}
-use Rattle.wire.specs.Reading.{headed, cleared, wholeOf}
+use Rattle.records.specs.Rules.{headed, cleared}
+use Rattle.wire.specs.Reading.{wholeOf}
 use Rattle.wire.proofs.Bytes.{head-is, reset-is, step-is, end-is}
 use Rattle.wire.proofs.take_whole.Statement.{statement}
 use Rattle.wire.proofs.take_whole.Tie as tie

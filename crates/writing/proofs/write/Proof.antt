@@ -82,39 +82,42 @@ element-copy-out-guard c =
     let e = c .before .before in
     inside-guard (start e .pre .0) (within e) (c .if2 .taken)
 
+cast-clock : tie.Need-cast-clock Inv-loop μ-loop
+cast-clock c = search needs
+
 array-read-put-guard : tie.Need-array-read-put-guard Inv-loop μ-loop
 array-read-put-guard c =
-    let e = c .before .before .before .before in
-    guard-clock (start e .pre .0) (within e) _ (c .before .before .if2 .taken)
+    let e = c .before .before .before .before .before in
+    guard-clock (start e .pre .0) (within e) _ (c .before .before .before .if2 .taken)
 
 mul-put-guard : tie.Need-mul-put-guard Inv-loop μ-loop
 mul-put-guard c = record { fits = omega (arith, array-read-put-guard c) }
 
 add-put-guard : tie.Need-add-put-guard Inv-loop μ-loop
 add-put-guard c =
-    let e = c .before .before .before .before in
+    let e = c .before .before .before .before .before in
     record { fits = omega (arith, inside-moment (start e .pre .0) (within e)) }
 
 put-guard-requires : tie.Need-put-guard-requires Inv-loop μ-loop
 put-guard-requires c κs =
-    let e = c .before .before .before .before in
-    guard-fits (start e .pre .0) (within e) _ (c .before .before .if2 .taken)
+    let e = c .before .before .before .before .before in
+    guard-fits (start e .pre .0) (within e) _ (c .before .before .before .if2 .taken)
 
 add-g : tie.Need-add-g Inv-loop μ-loop
 add-g c =
-    let e = c .before .before .before .before .before .before in
-    record { fits = omega (arith, inside-guard (start e .pre .0) (within e) (c .before .before .before .before .if2 .taken)) }
+    let e = c .before .before .before .before .before .before .before in
+    record { fits = omega (arith, inside-guard (start e .pre .0) (within e) (c .before .before .before .before .before .if2 .taken)) }
 
 loop-less-2 : tie.Need-loop-less-2 Inv-loop μ-loop
 loop-less-2 c =
-    let e = c .before .before .before .before .before .before in
-    omega (arith, inside-guard (start e .pre .0) (within e) (c .before .before .before .before .if2 .taken))
+    let e = c .before .before .before .before .before .before .before in
+    omega (arith, inside-guard (start e .pre .0) (within e) (c .before .before .before .before .before .if2 .taken))
 
 loop-again-2 : tie.Need-loop-again-2 Inv-loop μ-loop
 loop-again-2 c =
-    let e = c .before .before .before .before .before .before in
+    let e = c .before .before .before .before .before .before .before in
     going-inside (e .if1 .left)
-    (passed-guard (start e .pre .0) (within e) _ (c .before .before .before .before .if2 .taken)
+    (passed-guard (start e .pre .0) (within e) _ (c .before .before .before .before .before .if2 .taken)
     (c .before .put-guard .ensures))
 
 add-reset-clocks : tie.Need-add-reset-clocks Inv-loop μ-loop
@@ -213,6 +216,7 @@ write-spec =
     element-copy-out-if2
     mul-guard
     element-copy-out-guard
+    cast-clock
     mul-put-guard
     array-read-put-guard
     add-put-guard

@@ -1,20 +1,26 @@
 -- `zones::unbounded` meets its contract. The places passed of the diagonal are stored; the measure is what is left.
+use Rattle.zones.specs.Building.{diagonal-none, diagonal-more}
+use Rattle.zones.specs.Cells.{Diagonal}
+use Prim.Native.Nat.{_-_, _≤_}
 use mathlib.Core.Path.{_≡_}
-use Prim.Native.Nat.{_≤_, _-_}
-use Rattle.zones.specs.Building.{Diagonal, diagonal-none, diagonal-more, diagonal-all}
 use borrow.Author.Needs.{needs}
 use native.Mathlib.Omega.{arith}
 use Rattle.zones.proofs.unbounded.Statement.{statement}
 use Rattle.zones.proofs.unbounded.Tie as tie
 
 abbrev Inv-loop : tie.InvT-loop
-Inv-loop cells₀ i₀ cells i = (i ≤ 21) × Diagonal i cells
+Inv-loop cells₀ size i₀ cells i = (i ≤ size) × Diagonal size i cells
 
 abbrev μ-loop : tie.MeasureT-loop
-μ-loop cells₀ i₀ cells i = 21 - i
+μ-loop cells₀ size i₀ cells i = size - i
+
+clear-requires : tie.Need-clear-requires Inv-loop μ-loop
+clear-requires c κs = search needs
 
 loop-holds : tie.Need-loop-holds Inv-loop μ-loop
-loop-holds c = (search needs, diagonal-none)
+loop-holds c =
+    let s = c .before .before .before .before .before in
+    (search needs, diagonal-none _ _ (s .pre .1) (c .before .before .clear .ensures))
 
 mul-cells : tie.Need-mul-cells Inv-loop μ-loop
 mul-cells c = search needs
@@ -22,8 +28,8 @@ mul-cells c = search needs
 mul-cells-2 : tie.Need-mul-cells-2 Inv-loop μ-loop
 mul-cells-2 c = search needs
 
-array-write-cells : tie.Need-array-write-cells Inv-loop μ-loop
-array-write-cells c = search needs
+slice-write-cells : tie.Need-slice-write-cells Inv-loop μ-loop
+slice-write-cells c = search needs
 
 add-i : tie.Need-add-i Inv-loop μ-loop
 add-i c = search needs
@@ -34,13 +40,16 @@ loop-less c = search needs
 loop-again : tie.Need-loop-again Inv-loop μ-loop
 loop-again c =
     let h = c .before in
-    (search needs, diagonal-more (h .loop .i) (h .loop .cells) (omega arith) (h .loop .inv .1))
+    (search needs, diagonal-more _ _ _ (omega arith) (omega arith) (h .loop .inv .1))
+
+same-length : tie.Need-same-length Inv-loop μ-loop
+same-length c = search needs
 
 returns : tie.Need-returns Inv-loop μ-loop
 returns c =
     let h = c .before in
-    let e : h .loop .i ≡ 21 = omega arith in
-    diagonal-all (h .loop .cells) (rw e at (h .loop .inv .1))
+    let e : h .loop .i ≡ h .before .before .before .before .before .before .args .size = omega arith in
+    rw e at (h .loop .inv .1)
 
 pub unbounded-spec : {M : Type 1} → statement M
 unbounded-spec =
@@ -48,11 +57,13 @@ unbounded-spec =
     (tie.spec
     Inv-loop
     μ-loop
+    clear-requires
     loop-holds
     mul-cells
     mul-cells-2
-    array-write-cells
+    slice-write-cells
     add-i
     loop-less
     loop-again
+    same-length
     returns)

@@ -1,0 +1,120 @@
+/* Measures the stack that each entry takes, by painting what lies below the caller's frame and looking how far down the paint is
+ * gone. Needs the static library; prints one line for each table and entry, and fails if one takes more than LIMIT bytes. */
+#include "../terminal/judge.h"
+#include <stdio.h>
+#include <stdlib.h>
+#include <string.h>
+
+enum { DEPTH = 1 << 20, MARGIN = 512, PAINT = 0xA5, LIMIT = 64 * 1024 };
+
+static uint8_t table[5000];
+static size_t length;
+static uint64_t rounds_asked;
+static uint64_t times[1024], starts[6], room[1031], answer[4];
+static int64_t row[4 * 132102];
+
+static void ask_read(void) { judge_read(table, length, answer, 4); }
+static void ask_rounds(void) { judge_rounds(table, length, answer, 4); }
+static void ask_plan(void) {
+    judge_plan(table, length, rounds_asked, times, 1024, starts, 6, room, 1031, answer, 4);
+}
+static void ask_demands(void) { judge_demands(table, length, rounds_asked, row, 4 * 132102, answer, 4); }
+
+/* The bytes below this frame that a call changed, MARGIN at least. */
+static __attribute__((noinline)) size_t taken(void (*call)(void)) {
+    volatile uint8_t *top = __builtin_frame_address(0);
+    volatile uint8_t *bottom = top - DEPTH;
+    for (volatile uint8_t *p = bottom; p < top - MARGIN; p++) *p = PAINT;
+    call();
+    volatile uint8_t *p = bottom;
+    while (p < top - MARGIN && *p == PAINT) p++;
+    return (size_t)(top - p);
+}
+
+/* Guards, resets and steps of a table under construction. */
+static void put(int count, const uint8_t *bytes) {
+    memcpy(table + length, bytes, (size_t)count);
+    length += (size_t)count;
+}
+static void guard(int clock, int relation, int constant) {
+    put(5, (uint8_t[]){2, (uint8_t)clock, (uint8_t)relation, (uint8_t)(constant % 256), (uint8_t)(constant / 256)});
+}
+static void reset(int clock) { put(2, (uint8_t[]){3, (uint8_t)clock}); }
+
+/* Six clocks, sixteen steps, 64 guards: without end, or with a clock that is never reset and runs out. */
+static void largest(int with_an_end) {
+    length = 0;
+    put(2, (uint8_t[]){1, 6});
+    for (int i = 0; i < 16; i++) {
+        int clocks = with_an_end ? 5 : 6;
+        guard(i % clocks + 1, 3, 1);
+        guard((i + 1) % clocks + 1, 1, 400);
+        guard((i + 2) % clocks + 1, 4, 0);
+        with_an_end ? guard(6, 0, 4000) : guard((i + 3) % clocks + 1, 0, 500);
+        reset(i % clocks + 1);
+        put(1, (uint8_t[]){4});
+    }
+    put(1, (uint8_t[]){5});
+}
+
+/* One step with 64 guards on six clocks, all reset. */
+static void crowded(void) {
+    length = 0;
+    put(2, (uint8_t[]){1, 6});
+    for (int i = 0; i < 64; i++) guard(i % 6 + 1, 2, 3);
+    for (int j = 1; j <= 6; j++) reset(j);
+    put(2, (uint8_t[]){4, 5});
+}
+
+/* S11: 4,001 rounds. */
+static void counted(void) {
+    length = 0;
+    put(2, (uint8_t[]){1, 2});
+    guard(1, 3, 1);
+    guard(2, 1, 4000);
+    reset(1);
+    put(2, (uint8_t[]){4, 5});
+}
+
+static int failed;
+
+static void line(const char *name, uint64_t k) {
+    rounds_asked = k;
+    struct { const char *entry; void (*call)(void); } asked[] = {
+        {"read", ask_read}, {"rounds", ask_rounds}, {"plan", ask_plan}, {"demands", ask_demands}};
+    printf("%-44s", name);
+    for (int i = 0; i < 4; i++) {
+        size_t bytes = taken(asked[i].call);
+        printf(" %8zu", bytes);
+        if (bytes > LIMIT) failed = 1;
+    }
+    printf("\n");
+}
+
+static void sample(const char *path, uint64_t k) {
+    FILE *f = fopen(path, "rb");
+    if (!f) { fprintf(stderr, "cannot read %s\n", path); exit(2); }
+    length = fread(table, 1, sizeof table, f);
+    fclose(f);
+    line(path, k);
+}
+
+int main(void) {
+    printf("%-44s %8s %8s %8s %8s\n", "stack in bytes", "read", "rounds", "plan", "demands");
+    sample("samples/S1.table", 1024);
+    sample("samples/S2.table", 2);
+    sample("samples/S10.table", 2);
+    sample("samples/S11.table", 1024);
+    largest(0);
+    line("6 clocks, 16 steps, 64 guards, without end", 64);
+    largest(1);
+    line("6 clocks, 16 steps, 64 guards, a count", 64);
+    crowded();
+    line("1 step, 64 exact guards, six clocks", 1024);
+    counted();
+    line("4,001 rounds", 1024);
+    memset(table, 3, sizeof table);
+    length = 4096;
+    line("refused", 1);
+    return failed;
+}

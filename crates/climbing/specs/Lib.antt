@@ -1,0 +1,5 @@
+pub mod LeftPart
+-- rounds and their effects
+pub mod Climbing
+-- the way up and the way down
+pub mod Ways

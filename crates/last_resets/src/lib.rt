@@ -1,0 +1,68 @@
+// The last resets of the clocks at each step of the rounds, from their distances: how many steps ago in rounds without end.
+use table::Table;
+ghost use mathlib.Core.Path.{_≡_};
+ghost use Prim.Native.Nat.{_+_, _≤_, _<_};
+ghost use lib.ListN.{length};
+ghost use Rattle.table.specs.Step.{Good};
+ghost use Rattle.last_resets.specs.Since.{oneMore};
+ghost use Rattle.last_resets.specs.Distance.{lastOf, distancesOf};
+ghost use Rattle.last_resets.specs.Carried.{carried, Small};
+ghost use Rattle.last_resets.specs.Walking.{precedingOf};
+
+// The steps since the last reset, `n` before a step and this after it.
+fn one_more(reset: bool, n: usize) -> usize
+    requires { ⌜ n ≤ 1000 ⌝ }
+    ensures { λ r. ⌜ r ≡ oneMore reset n ⌝ }
+{
+    if reset {
+        return 1;
+    }
+    if n == 0 { 0 } else { n + 1 }
+}
+
+// Carries `count` numbers of the row from one step on to the next.
+fn carry(flags: &[bool; 119], from: usize, to: usize, count: usize, row: &mut [usize; 112])
+    requires { ⌜ (length (now flags) ≡ 119) × (from + count ≤ 112) × (to + count ≤ 112) × Small 500 (now row) ⌝ }
+    ensures { λ _. ⌜ now (row .exit) ≡ carried (now (flags .entry)) from to (now (row .entry)) count ⌝ }
+{
+    let mut n: usize = 0;
+    while n < count {
+        row[to + n] = one_more(flags[from + n], row[from + n]);
+        n += 1;
+    }
+}
+
+// The distances of all steps and clocks, that of step s and clock j at place 7 * s + j: carried on over two rounds.
+pub fn distances(t: Table) -> [usize; 112]
+    requires { ⌜ Good t ⌝ }
+    ensures { λ r. ⌜ r ≡ distancesOf t ⌝ }
+{
+    let mut row: [usize; 112] = [0; 112];
+    let last = 7 * t.steps - 7;
+    carry(&t.resets, 0, 7, last, &mut row);
+    carry(&t.resets, last, 0, 7, &mut row);
+    carry(&t.resets, 0, 7, last, &mut row);
+    row
+}
+
+// The moment of the last reset of clock j when i of `total` steps are past, from its distance.
+pub fn last_reset(distance: usize, total: usize, i: usize, j: usize) -> usize
+    requires { ⌜ (total ≤ 1024) × (i ≤ 1024) × (j ≤ 6) ⌝ }
+    ensures { λ r. ⌜ r ≡ lastOf distance total i j ⌝ }
+{
+    if distance == 0 {
+        return total + j;
+    }
+    if distance < i + 1 {
+        return i + 1 - distance;
+    }
+    total + j
+}
+
+// The step of a round before step s.
+pub fn preceding(s: usize, steps: usize) -> usize
+    requires { ⌜ 0 < steps ⌝ }
+    ensures { λ r. ⌜ r ≡ precedingOf s steps ⌝ }
+{
+    if s == 0 { steps - 1 } else { s - 1 }
+}

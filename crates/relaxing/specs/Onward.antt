@@ -1,0 +1,52 @@
+-- One way forth settles what it checks.
+use mathlib.Core.Path.{_≡_, refl, sym, ap, subst, _∙_}
+use mathlib.Core.Logic.{_⊎_, inl, inr, _≢_, ⊎-elim}
+use mathlib.Core.List.{List, [], _∷_, _++_, List·Memᴰ, Memᴰ·of-map, map-append}
+use Prim.Native.Nat.{ℕ, zero, suc, _+_, _≤_, _<_}
+use native.Mathlib.Omega.{arith}
+use Rattle.runs.specs.declared.Demand.{Demand}
+use Rattle.sweeps.specs.Order.{forthAt, forthOf, forth-none, forth-more}
+use Rattle.sweeps.specs.Ends.{Earlier, forth-at-ends, forth-raises}
+use Rattle.paths.specs.Constraint.{Constraint}
+use Rattle.paths.specs.Onward.{Onward, none, onward-all, onward-append}
+use Rattle.checks.specs.InParts.{inParts, allInParts}
+
+-- no demand of ys raises the end of one of xs
+abbrev pub Apart : List Demand → List Demand → Type 0
+Apart xs ys = (c d : Demand) → List·Memᴰ c xs → List·Memᴰ d ys → d .from ≢ c .to
+
+module _ (P : ℕ) where
+  parts-apart : (xs ys : List Demand) → Apart xs ys
+      → (c d : Constraint) → List·Memᴰ c (allInParts P xs) → List·Memᴰ d (allInParts P ys) → d .from ≢ c .to
+  parts-apart xs ys h c d k m = go (Memᴰ·of-map (inParts P) xs k) (Memᴰ·of-map (inParts P) ys m)
+    where
+      go : (a : Demand) × List·Memᴰ a xs × (inParts P a ≡ c) → (b : Demand) × List·Memᴰ b ys × (inParts P b ≡ d) → d .from ≢ c .to
+      go a b e = h (a .0) (b .0) (a .1) (b .1) (ap (λ z. z .from) (b .2) ∙ e ∙ sym (ap (λ z. z .to) (a .2)))
+
+  pub parts-onward : (xs : List Demand) → Apart xs xs → Onward (allInParts P xs)
+  parts-onward xs h = onward-all (allInParts P xs) (parts-apart xs xs h)
+
+  pub parts-append : (xs ys : List Demand) → Onward (allInParts P xs) → Onward (allInParts P ys) → Apart xs ys
+      → Onward (allInParts P (xs ++ ys))
+  parts-append xs ys a b h =
+      subst Onward (sym (map-append (inParts P) xs ys))
+      (onward-append (allInParts P xs) (allInParts P ys) a b (parts-apart xs ys h))
+
+  module _ (low far : List ℕ) (L n K : ℕ) where
+    -- an earlier moment is none that is raised later
+    apart : (i a b : ℕ) → Earlier K i a → i < b → b ≤ K → b ≢ a
+    apart i a b (inl l) p q e = omega arith
+    apart i a b (inr l) p q e = omega arith
+
+    pub forth-onward : (i m : ℕ) → i + m ≤ K → Onward (allInParts P (forthOf low far L n K i m))
+    forth-onward i zero l = subst (λ ds. Onward (allInParts P ds)) (sym (forth-none low far L n K i)) none
+    forth-onward i (suc m) l =
+        subst (λ ds. Onward (allInParts P ds)) (sym (forth-more low far L n K i m))
+        (parts-append (forthAt low far L n K i) (forthOf low far L n K (suc i) m)
+        (parts-onward (forthAt low far L n K i) (λ c d k j.
+        apart i (c .to) (d .from) (forth-at-ends low far L n K i c k .1)
+        (omega (arith, forth-at-ends low far L n K i d j .0)) (omega (arith, forth-at-ends low far L n K i d j .0))))
+        (forth-onward (suc i) m (omega arith))
+        (λ c d k j.
+        apart i (c .to) (d .from) (forth-at-ends low far L n K i c k .1)
+        (omega (arith, forth-raises low far L n K (suc i) m d j .0)) (omega (arith, forth-raises low far L n K (suc i) m d j .1))))

@@ -1,0 +1,166 @@
+-- A pass: forth over all steps, back over all steps, then the starts. Where the way back raised nothing, everything holds.
+use mathlib.Core.Path.{_≡_, refl, sym, ap, subst, _∙_}
+use mathlib.Core.Logic.{_⊎_, inl, inr, ⊎-elim}
+use mathlib.Core.Bool.{Bool, true, false, _||_, or-true}
+use mathlib.Core.List.{List, [], _∷_, _++_, List·Memᴰ, Memᴰ·of-map, List·Memᴰ·append-cases, map-append}
+use Prim.Native.Nat.{ℕ, _+_, _*_, _≤_, _<_, _^_}
+use native.Mathlib.Omega.{arith}
+use lib.ListN.{length, length-append}
+use Rattle.runs.specs.declared.Demand.{Demand}
+use Rattle.runs.specs.Demand.{startDemands, anyStarts}
+use Rattle.runs.specs.Tools.{Every, every-append}
+use Rattle.sweeps.specs.Order.{forthOf, backOf, returnOf, sweepOf}
+use Rattle.sweeps.specs.Number.{sweep-few}
+use Rattle.paths.specs.Places.{at}
+use Rattle.paths.specs.Constraint.{Constraint, All, Fits}
+use Rattle.paths.specs.State.{State, passOf, hitsOf, pass-append, hits-append}
+use Rattle.paths.specs.Bounds.{SameSize, Room, Under}
+use Rattle.paths.specs.Pass.{quiet}
+use Rattle.paths.specs.Onward.{onward-settles}
+use Rattle.checks.specs.InParts.{inParts, allInParts}
+use Rattle.checks.specs.Checks.{Slight, unit, Checkable, Checked, length-parts, checked-append, checkable-left, checkable-right}
+use Rattle.relaxing.specs.Rows.{Rows, sweep, moments, constraintsOf, Sound}
+use Rattle.relaxing.specs.Onward.{forth-onward}
+
+-- What a pass asks.
+pub record Passable (R : Rows) (s : State) (q : ℕ) : Type 0 where
+  pub sound : Sound R
+  pub room : Room (moments R) s
+  pub under : Under (moments R) (2 ^ 62) (s .time)
+  pub stamp : q ≤ 2 ^ 62
+
+-- What it gives: all constraints are checked in turn from the stamp q on, and r is the stamp after them. Where h is true some time
+-- was raised, and where it is false all of them hold now.
+pub record Swept (R : Rows) (q : ℕ) (s s′ : State) (h : Bool) (r : ℕ) : Type 0 where
+  pub after : s′ ≡ passOf (constraintsOf R) q s
+  pub stamp : r ≡ q + length (constraintsOf R)
+  pub loud : h ≡ true → hitsOf (constraintsOf R) q s ≡ true
+  pub quiet : h ≡ false → All (constraintsOf R) (at (s′ .time))
+
+-- demands with small ends fit
+pub slight-fits : (P : ℕ) (ds : List Demand) → Every (Slight P) ds → Fits P (allInParts P ds)
+slight-fits P ds h =
+    record {
+      from = λ c m. from c (Memᴰ·of-map (inParts P) ds m);
+      to = λ c m. to c (Memᴰ·of-map (inParts P) ds m);
+    }
+  where
+    from : (c : Constraint) → (d : Demand) × List·Memᴰ d ds × (inParts P d ≡ c) → c .from < P
+    from c d = rw (← d .2) (h (d .0) (d .1) .from)
+
+    to : (c : Constraint) → (d : Demand) × List·Memᴰ d ds × (inParts P d ≡ c) → c .to < P
+    to c d = rw (← d .2) (h (d .0) (d .1) .to)
+
+module _ (R : Rows) (q : ℕ) (s : State) (p : Passable R s q) where
+  abbrev P : ℕ
+  P = moments R
+
+  abbrev forth : List Demand
+  forth = forthOf (R .low) (R .far) (R .steps) (R .clocks) (R .total) 0 (R .total)
+
+  abbrev back : List Demand
+  back = backOf (R .up) (R .far) (R .steps) (R .clocks) (R .total) (R .total)
+
+  abbrev starts : List Demand
+  starts = startDemands (R .total) anyStarts 1 (R .clocks)
+
+  few : length (sweep R) ≤ 13318
+  few = sweep-few (R .low) (R .up) (R .far) (R .steps) (R .clocks) (R .total) (p .sound .clocks) (p .sound .few)
+
+  able : Checkable P (forth ++ (back ++ starts)) s q
+  able =
+      record {
+        slight = p .sound .slight;
+        room = p .room;
+        top = 2 ^ 62;
+        under = p .under;
+        low = omega (arith, few);
+        stamp = omega (arith, p .stamp, few);
+      }
+
+  pub forth-able : Checkable P forth s q
+  forth-able = checkable-left P forth (back ++ starts) s q able
+
+  module _ (s₁ : State) (h₁ : Bool) (q₁ : ℕ) (c₁ : Checked P forth false q s s₁ h₁ q₁) where
+    return-able : Checkable P (back ++ starts) s₁ q₁
+    return-able = checkable-right P forth (back ++ starts) false q s s₁ h₁ q₁ c₁ able
+
+    pub back-able : Checkable P back s₁ q₁
+    back-able = checkable-left P back starts s₁ q₁ return-able
+
+    module _ (s₂ : State) (h₂ : Bool) (q₂ : ℕ) (c₂ : Checked P back false q₁ s₁ s₂ h₂ q₂) where
+      pub starts-able : Checkable P starts s₂ q₂
+      starts-able = checkable-right P back starts false q₁ s₁ s₂ h₂ q₂ c₂ return-able
+
+      module _ (s₃ : State) (h₃ : Bool) (q₃ : ℕ) (c₃ : Checked P starts h₂ q₂ s₂ s₃ h₃ q₃) where
+        F : List Constraint
+        F = allInParts P forth
+
+        B : List Constraint
+        B = allInParts P (back ++ starts)
+
+        both : Checked P (back ++ starts) false q₁ s₁ s₃ h₃ q₃
+        both = checked-append P back starts false q₁ s₁ s₂ h₂ q₂ c₂ s₃ h₃ q₃ c₃
+
+        parts : allInParts P (sweep R) ≡ F ++ B
+        unfolding F B
+        parts = map-append (inParts P) forth (back ++ starts)
+
+        next : q₁ ≡ q + length F
+        unfolding F
+        next = omega (arith, c₁ .stamp, length-parts P forth)
+
+        gone : s₁ ≡ passOf F q s
+        unfolding F
+        gone = c₁ .after
+
+        come : s₃ ≡ passOf B q₁ s₁
+        unfolding B
+        come = both .after
+
+        after : s₃ ≡ passOf (F ++ B) q s
+        after =
+            come
+            ∙ ap (λ k. passOf B k s₁) next
+            ∙ ap (λ x. passOf B (q + length F) x) gone
+            ∙ sym (pass-append F B q s)
+
+        hit : hitsOf B (q + length F) (passOf F q s) ≡ h₃
+        unfolding B
+        hit =
+            ap (λ x. hitsOf B (q + length F) x) (sym gone)
+            ∙ ap (λ k. hitsOf B k s₁) (sym next)
+            ∙ sym (both .hits)
+
+        loud : h₃ ≡ true → hitsOf (F ++ B) q s ≡ true
+        loud e =
+            hits-append F B q s ∙ ap (λ b. hitsOf F q s || b) (hit ∙ e) ∙ or-true (hitsOf F q s)
+
+        holds : h₃ ≡ false → All (F ++ B) (at (s₃ .time))
+        unfolding F
+        holds e c m =
+            let k = quiet B (q + length F) (passOf F q s) (hit ∙ e) in
+            let same : s₃ ≡ passOf F q s = after ∙ pass-append F B q s ∙ k .kept in
+            rw same
+            (⊎-elim
+            (onward-settles P F q s (slight-fits P forth (every-append (Slight P) forth (back ++ starts) .0 (p .sound .slight) .0))
+            (p .room) (forth-onward P (R .low) (R .far) (R .steps) (R .clocks) (R .total) 0 (R .total) (omega arith)) c)
+            (k .holds c)
+            (List·Memᴰ·append-cases F m))
+
+        pub pass-swept : Swept R q s s₃ h₃ q₃
+        unfolding constraintsOf
+        pass-swept =
+            record {
+              after = after ∙ ap (λ cs. passOf cs q s) (sym parts);
+              stamp =
+                  omega (
+                    arith,
+                    both .stamp,
+                    c₁ .stamp,
+                    length-parts P (sweep R),
+                    length-append forth (back ++ starts),
+                  );
+              loud = λ e. ap (λ cs. hitsOf cs q s) parts ∙ loud e;
+              quiet = λ e. subst (λ cs. All cs (at (s₃ .time))) (sym parts) (holds e);
+            }

@@ -1,0 +1,62 @@
+-- The rows that a pass goes over, and what is asked of them.
+use mathlib.Core.Path.{_≡_}
+use mathlib.Core.List.{List}
+use Prim.Native.Nat.{ℕ, _+_, _%_, _≤_, _<_}
+use native.Mathlib.Omega.{arith}
+use lib.ListN.{length}
+use Rattle.runs.specs.declared.Demand.{Demand}
+use Rattle.runs.specs.Tools.{Every}
+use Rattle.sweeps.specs.Order.{sweepOf}
+use Rattle.paths.specs.Constraint.{Constraint}
+use Rattle.checks.specs.InParts.{allInParts}
+use Rattle.checks.specs.Checks.{Slight}
+use Rattle.ways.specs.Forth.{Going}
+
+-- With a place 7 * s + j for step s of a round and clock j: the keys of the tightest guards from below and from above, and the
+-- distances to the last resets. Rounds have so many steps and clocks, and all rounds together `total` steps.
+pub record Rows : Type 0 where
+  pub low : List ℕ
+  pub up : List ℕ
+  pub far : List ℕ
+  pub steps : ℕ
+  pub clocks : ℕ
+  pub total : ℕ
+
+abbrev pub rows : List ℕ → List ℕ → List ℕ → ℕ → ℕ → ℕ → Rows
+rows low up far L n K = record { low = low; up = up; far = far; steps = L; clocks = n; total = K }
+
+-- the demands of a pass, in its order
+abbrev pub sweep : Rows → List Demand
+sweep R = sweepOf (R .low) (R .up) (R .far) (R .steps) (R .clocks) (R .total)
+
+-- the number of moments, which is also the number of parts to a tick
+abbrev pub moments : Rows → ℕ
+moments R = R .total + R .clocks + 1
+
+-- the demands as constraints
+unfoldable pub constraintsOf : Rows → List Constraint
+constraintsOf R = allInParts (moments R) (sweep R)
+
+-- What is asked of all: whole rounds, and demands between the moments with small bounds.
+pub record Sound (R : Rows) : Type 0 where
+  pub low : length (R .low) ≡ 112
+  pub up : length (R .up) ≡ 112
+  pub far : length (R .far) ≡ 112
+  pub some : 0 < R .steps
+  pub steps : R .steps ≤ 16
+  pub clocks : R .clocks ≤ 6
+  pub few : R .total ≤ 1024
+  pub whole : R .total % R .steps ≡ 0
+  pub slight : Every (Slight (moments R)) (sweep R)
+
+module _ (R : Rows) (z : Sound R) where
+  pub sound-moments : moments R ≤ 1031
+  sound-moments = omega (arith, z .few, z .clocks)
+
+  pub going-low : Going (R .low) (R .far) (R .steps) (R .clocks) (R .total)
+  going-low =
+      record { keyed = z .low; reached = z .far; some = z .some; steps = z .steps; clocks = z .clocks; few = z .few }
+
+  pub going-up : Going (R .up) (R .far) (R .steps) (R .clocks) (R .total)
+  going-up =
+      record { keyed = z .up; reached = z .far; some = z .some; steps = z .steps; clocks = z .clocks; few = z .few }

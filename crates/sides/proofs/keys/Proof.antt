@@ -1,0 +1,152 @@
+-- `sides::keys` meets its contract: steps before step s are done, and of step s the guards before place i.
+use Prim.Native.Nat.{_+_, _-_, _<_}
+use lib.ListN.{getD}
+use Rattle.table.specs.Step.{FairGuard}
+use Rattle.table.specs.declared.Guard.{Guard}
+use Rattle.table.specs.declared.Relation.the-variants.{Under}
+use Rattle.sides.specs.Filled.{Filled, filled-first, guard-room, guard-here, filled-guard, filled-step, filled-last}
+use borrow.Author.Needs.{needs}
+use native.Mathlib.Omega.{arith}
+use Rattle.sides.proofs.keys.Statement.{statement}
+use Rattle.sides.proofs.keys.Tie as tie
+
+abbrev Inv-loop : tie.InvT-loop
+Inv-loop upper t row₀ s₀ i₀ row s i = Filled upper t row s i
+
+abbrev μ-loop : tie.MeasureT-loop
+μ-loop upper t row₀ s₀ i₀ row s i = 80 - (s + i)
+
+element-copy-out-i : tie.Need-element-copy-out-i Inv-loop μ-loop
+element-copy-out-i c = search needs
+
+loop-holds : tie.Need-loop-holds Inv-loop μ-loop
+loop-holds c = let s = c .before in filled-first (s .args .upper) (s .args .t1) (s .pre)
+
+add-if1 : tie.Need-add-if1 Inv-loop μ-loop
+add-if1 c = search needs
+
+mul-if1 : tie.Need-mul-if1 Inv-loop μ-loop
+mul-if1 c = search needs
+
+element-copy-out-if1 : tie.Need-element-copy-out-if1 Inv-loop μ-loop
+element-copy-out-if1 c = search needs
+
+-- the guard at place i
+module _ (c : tie.Then1 Inv-loop μ-loop) where
+  abbrev loop : tie.At-loop Inv-loop μ-loop
+  loop = c .before .before .before
+
+  abbrev start : tie.Start Inv-loop μ-loop
+  start = loop .before .before
+
+  abbrev unread : Guard
+  unread = record { clock = 0; relation = Under; constant = 0 }
+
+  inside : loop .loop .i < getD (start .args .t1 .ends) (loop .loop .s + 1) 0
+  inside = omega arith
+
+  room : loop .loop .i < 64
+  room =
+      guard-room (start .args .upper) (start .args .t1) (start .pre) _ (loop .loop .s) (loop .loop .i) (loop .loop .inv)
+      (c .before .before .loop-test .taken) inside unread
+
+  fair : FairGuard (getD (start .args .t1 .guards) (loop .loop .i) unread)
+  fair =
+      guard-here (start .args .upper) (start .args .t1) (start .pre) _ (loop .loop .s) (loop .loop .i) (loop .loop .inv)
+      (c .before .before .loop-test .taken) inside unread
+
+mul-g : tie.Need-mul-g Inv-loop μ-loop
+mul-g c = search needs
+
+element-copy-out-g : tie.Need-element-copy-out-g Inv-loop μ-loop
+element-copy-out-g c = room c
+
+mul-at : tie.Need-mul-at Inv-loop μ-loop
+mul-at c = search needs
+
+cast-at : tie.Need-cast-at Inv-loop μ-loop
+cast-at c = search needs
+
+add-at : tie.Need-add-at Inv-loop μ-loop
+add-at c = omega (arith, fair (c .before .before) .last)
+
+mul-smaller : tie.Need-mul-smaller Inv-loop μ-loop
+mul-smaller c = omega (arith, fair (c .before .before) .last)
+
+array-read-smaller : tie.Need-array-read-smaller Inv-loop μ-loop
+array-read-smaller c = omega (arith, fair (c .before .before) .last)
+
+side-key-requires : tie.Need-side-key-requires Inv-loop μ-loop
+side-key-requires c κs = fair (c .before .before) .small
+
+smaller-requires : tie.Need-smaller-requires Inv-loop μ-loop
+smaller-requires c κs = search needs
+
+mul-row : tie.Need-mul-row Inv-loop μ-loop
+mul-row c = omega (arith, fair (c .before .before .before .before) .last)
+
+array-write-row : tie.Need-array-write-row Inv-loop μ-loop
+array-write-row c = omega (arith, fair (c .before .before .before .before) .last)
+
+add-i : tie.Need-add-i Inv-loop μ-loop
+add-i c = search needs
+
+loop-less : tie.Need-loop-less Inv-loop μ-loop
+loop-less c = search needs
+
+loop-again : tie.Need-loop-again Inv-loop μ-loop
+loop-again c =
+    let p = c .before .before .before .before in
+    let h = p .before .before .before in
+    let s = h .before .before in
+    filled-guard (s .args .upper) (s .args .t1) (s .pre) _ (h .loop .s) (h .loop .i) (h .loop .inv)
+    (p .before .before .loop-test .taken) (inside p) _ _ _ (c .before .side-key .ensures) (c .smaller .ensures)
+
+add-s : tie.Need-add-s Inv-loop μ-loop
+add-s c = search needs
+
+loop-less-2 : tie.Need-loop-less-2 Inv-loop μ-loop
+loop-less-2 c = search needs
+
+loop-again-2 : tie.Need-loop-again-2 Inv-loop μ-loop
+loop-again-2 c =
+    let h = c .before .before .before in
+    let s = h .before .before in
+    filled-step (s .args .upper) (s .args .t1) (s .pre) _ (h .loop .s) (h .loop .i) (h .loop .inv) (c .before .before .loop-test .taken)
+    (omega arith)
+
+returns : tie.Need-returns Inv-loop μ-loop
+returns c =
+    let h = c .before in
+    let s = h .before .before in
+    filled-last (s .args .upper) (s .args .t1) (s .pre) _ (h .loop .s) (h .loop .i) (h .loop .inv) (c .loop-test .left)
+
+pub keys-spec : {M : Type 1} → statement M
+keys-spec =
+    tie.close
+    (tie.spec
+    Inv-loop
+    μ-loop
+    element-copy-out-i
+    loop-holds
+    add-if1
+    mul-if1
+    element-copy-out-if1
+    mul-g
+    element-copy-out-g
+    mul-at
+    cast-at
+    add-at
+    mul-smaller
+    array-read-smaller
+    side-key-requires
+    smaller-requires
+    mul-row
+    array-write-row
+    add-i
+    loop-less
+    loop-again
+    add-s
+    loop-less-2
+    loop-again-2
+    returns)

@@ -1,0 +1,5 @@
+pub mod Sides
+pub mod Covers
+pub mod Tight
+pub mod Keys
+pub mod Filled

@@ -1,0 +1,82 @@
+// Of the guards of each step, the tightest on each clock from above and the tightest from below, as rows of keys.
+use table::Guard;
+use table::Relation;
+use table::Table;
+ghost use mathlib.Core.Path.{_≡_};
+ghost use mathlib.Core.Bool.{true, false};
+ghost use Prim.Native.Nat.{_≤_, _-_, min};
+ghost use Rattle.table.specs.Step.{Good};
+ghost use Rattle.sides.specs.Sides.{sideKey};
+ghost use Rattle.sides.specs.Keys.{keysOf};
+
+// The key of no guard.
+pub const NONE: u64 = 9000;
+
+// How tight a guard is from above: the smaller the tighter.
+fn upper_key(relation: Relation, constant: u64) -> u64
+    requires { ⌜ constant ≤ 4000 ⌝ }
+    ensures { λ r. ⌜ r ≡ sideKey true relation constant ⌝ }
+{
+    match relation {
+        Relation::Under => 2 * constant,
+        Relation::AtMost => 2 * constant + 1,
+        Relation::Exactly => 2 * constant + 1,
+        Relation::AtLeast => NONE,
+        Relation::Over => NONE,
+    }
+}
+
+// How tight it is from below.
+fn lower_key(relation: Relation, constant: u64) -> u64
+    requires { ⌜ constant ≤ 4000 ⌝ }
+    ensures { λ r. ⌜ r ≡ sideKey false relation constant ⌝ }
+{
+    match relation {
+        Relation::Under => NONE,
+        Relation::AtMost => NONE,
+        Relation::Exactly => 8001 - 2 * constant,
+        Relation::AtLeast => 8001 - 2 * constant,
+        Relation::Over => 8000 - 2 * constant,
+    }
+}
+
+// The key of a guard's side.
+fn side_key(upper: bool, g: Guard) -> u64
+    requires { ⌜ g .constant ≤ 4000 ⌝ }
+    ensures { λ r. ⌜ r ≡ sideKey upper (g .relation) (g .constant) ⌝ }
+{
+    let relation = g.relation;
+    let constant = g.constant as u64;
+    if upper {
+        return upper_key(relation, constant);
+    }
+    lower_key(relation, constant)
+}
+
+// The smaller of two numbers.
+fn smaller(a: u64, b: u64) -> u64
+    ensures { λ r. ⌜ r ≡ min a b ⌝ }
+{
+    if a < b { a } else { b }
+}
+
+// The keys of all steps and clocks on a side. Step s is next, with the guard at place i.
+pub fn keys(t: Table, upper: bool) -> [u64; 112]
+    requires { ⌜ Good t ⌝ }
+    ensures { λ r. ⌜ r ≡ keysOf upper t ⌝ }
+{
+    let mut row: [u64; 112] = [NONE; 112];
+    let mut s: usize = 0;
+    let mut i = t.ends[0];
+    while s < t.steps {
+        if i < t.ends[s + 1] {
+            let g = t.guards[i];
+            let at = 7 * s + g.clock as usize;
+            row[at] = smaller(row[at], side_key(upper, g));
+            i += 1;
+            continue;
+        }
+        s += 1;
+    }
+    row
+}

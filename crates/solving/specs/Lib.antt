@@ -1,0 +1,2 @@
+pub mod Solved
+pub mod Solve

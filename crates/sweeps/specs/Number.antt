@@ -1,0 +1,53 @@
+-- How many demands a pass checks.
+use mathlib.Core.Path.{_≡_}
+use mathlib.Core.Bool.{Bool, true, false}
+use mathlib.Core.List.{List, [], _∷_, _++_}
+use Prim.Native.Nat.{ℕ, zero, suc, _+_, _*_, _%_, _≤_, _<_}
+use native.Mathlib.Omega.{arith}
+use native.Mathlib.Nat.{mul-le-mul-left, mul-le-mul-right}
+use lib.ListN.{length, length-append, getD}
+use Rattle.runs.specs.Demand.{plus, startDemands, anyStarts}
+use Rattle.sides.specs.Sides.{Side}
+use Rattle.sides.specs.Tight.{keyDemands, key-demands-few}
+use Rattle.last_resets.specs.Distance.{lastOf}
+use Rattle.sweeps.specs.Order.{cell, sideOf, forthAt, forthOf, backAt, backOf, returnOf, sweepOf}
+
+-- at most one for each clock
+side-few : (b : Side) (keys far : List ℕ) (K s i j m : ℕ) → length (sideOf b keys far K s i j m) ≤ m
+unfolding sideOf
+side-few b keys far K s i j zero = omega arith
+side-few b keys far K s i j (suc m) =
+    rw (length-append (keyDemands b (getD keys (cell s j) 0) (lastOf (getD far (cell s j) 0) K i j) (suc i)) _)
+    (omega (arith, key-demands-few b (getD keys (cell s j) 0) (lastOf (getD far (cell s j) 0) K i j) (suc i), side-few b keys far K s i (suc j) m))
+
+module _ (n : ℕ) (few : n ≤ 6) where
+  forth-few : (low far : List ℕ) (L K i m : ℕ) → length (forthOf low far L n K i m) ≤ 7 * m
+  unfolding forthOf
+  forth-few low far L K i zero = omega arith
+  forth-few low far L K i (suc m) =
+      rw (length-append (forthAt low far L n K i) (forthOf low far L n K (suc i) m))
+      (omega (arith, side-few false low far K (i % L) i 1 n, forth-few low far L K (suc i) m))
+
+  back-few : (up far : List ℕ) (L K i : ℕ) → length (backOf up far L n K i) ≤ 6 * i
+  unfolding backOf
+  back-few up far L K zero = omega arith
+  back-few up far L K (suc i) =
+      rw (length-append (backAt up far L n K i) (backOf up far L n K i))
+      (omega (arith, side-few true up far K (i % L) i 1 n, back-few up far L K i))
+
+start-number : (K j n : ℕ) → length (startDemands K anyStarts j n) ≡ n
+unfolding startDemands anyStarts
+start-number K j zero = omega arith
+start-number K j (suc n) = omega (arith, start-number K (suc j) n)
+
+-- six clocks and 1,024 steps: at most 13,318
+pub sweep-few : (low up far : List ℕ) (L n K : ℕ) → n ≤ 6 → K ≤ 1024 → length (sweepOf low up far L n K) ≤ 13318
+sweep-few low up far L n K a b =
+    omega (
+      arith,
+      length-append (forthOf low far L n K 0 K) (returnOf up far L n K),
+      length-append (backOf up far L n K K) (startDemands K anyStarts 1 n),
+      forth-few n a low far L K 0 K,
+      back-few n a up far L K K,
+      start-number K 1 n,
+    )

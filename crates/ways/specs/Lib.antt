@@ -1,0 +1,3 @@
+pub mod Forth
+pub mod Back
+pub mod Starting

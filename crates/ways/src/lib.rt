@@ -1,0 +1,129 @@
+// The checks of a pass over the difference constraints of k rounds: forth over those that raise a later moment, back over those that
+// raise an earlier one, and of the starts.
+use checks::Sweep;
+use checks::check;
+use checks::check_side;
+use constraints::following;
+use constraints::not_after;
+use last_resets::preceding;
+ghost use mathlib.Core.Path.{_≡_};
+ghost use Prim.Native.Nat.{_≤_, _%_};
+ghost use Rattle.runs.specs.Demand.{startDemands, anyStarts};
+ghost use Rattle.sweeps.specs.Order.{forthOf, backOf};
+ghost use Rattle.paths.specs.State.{state};
+ghost use Rattle.checks.specs.Checks.{Checkable, Checked};
+ghost use Rattle.ways.specs.Forth.{Going};
+
+// The checks forth, from step to step: the order demand of a step, then its tightest guards from below. Step i is step s of its round.
+pub fn forth(
+    low: &[u64],
+    far: &[usize],
+    steps: usize,
+    clocks: usize,
+    total: usize,
+    parts: u64,
+    time: &mut [u64],
+    parent: &mut [u64],
+    stamp: &mut [u64],
+    w: Sweep,
+) -> Sweep
+    requires { ⌜ Going (now low) (now far) steps clocks total
+        × Checkable parts (forthOf (now low) (now far) steps clocks total 0 total) (state (now time) (now parent) (now stamp))
+        (w .stamp) ⌝ }
+    ensures { λ r. ⌜ Checked parts (forthOf (now (low .entry)) (now (far .entry)) steps clocks total 0 total) (w .raised) (w .stamp)
+        (state (now (time .entry)) (now (parent .entry)) (now (stamp .entry)))
+        (state (now (time .exit)) (now (parent .exit)) (now (stamp .exit))) (r .raised) (r .stamp) ⌝ }
+{
+    let mut swept = w;
+    let mut i: usize = 0;
+    let mut s: usize = 0;
+    while i < total {
+        let ordered = check(parts, not_after(i + 1, i), time, parent, stamp, swept);
+        swept = check_side(
+            false,
+            low,
+            far,
+            clocks,
+            total,
+            s,
+            i,
+            parts,
+            time,
+            parent,
+            stamp,
+            ordered,
+        );
+        s = following(s, steps);
+        i += 1;
+    }
+    swept
+}
+
+// The checks back, from the last step to the first: the tightest guards of each from above. Step i is step s of its round.
+pub fn back(
+    up: &[u64],
+    far: &[usize],
+    steps: usize,
+    clocks: usize,
+    total: usize,
+    parts: u64,
+    time: &mut [u64],
+    parent: &mut [u64],
+    stamp: &mut [u64],
+    w: Sweep,
+) -> Sweep
+    requires { ⌜ Going (now up) (now far) steps clocks total × (total % steps ≡ 0)
+        × Checkable parts (backOf (now up) (now far) steps clocks total total) (state (now time) (now parent) (now stamp))
+        (w .stamp) ⌝ }
+    ensures { λ r. ⌜ Checked parts (backOf (now (up .entry)) (now (far .entry)) steps clocks total total) (w .raised) (w .stamp)
+        (state (now (time .entry)) (now (parent .entry)) (now (stamp .entry)))
+        (state (now (time .exit)) (now (parent .exit)) (now (stamp .exit))) (r .raised) (r .stamp) ⌝ }
+{
+    let mut swept = w;
+    let mut i = total;
+    let mut s: usize = 0;
+    while 0 < i {
+        s = preceding(s, steps);
+        i -= 1;
+        swept = check_side(
+            true,
+            up,
+            far,
+            clocks,
+            total,
+            s,
+            i,
+            parts,
+            time,
+            parent,
+            stamp,
+            swept,
+        );
+    }
+    swept
+}
+
+// The checks of the start demand of each clock.
+pub fn check_starts(
+    total: usize,
+    clocks: usize,
+    parts: u64,
+    time: &mut [u64],
+    parent: &mut [u64],
+    stamp: &mut [u64],
+    w: Sweep,
+) -> Sweep
+    requires { ⌜ (total ≤ 1024) × (clocks ≤ 6) × Checkable parts (startDemands total anyStarts 1 clocks)
+        (state (now time) (now parent) (now stamp)) (w .stamp) ⌝ }
+    ensures { λ r. ⌜ Checked parts (startDemands total anyStarts 1 clocks) (w .raised) (w .stamp)
+        (state (now (time .entry)) (now (parent .entry)) (now (stamp .entry)))
+        (state (now (time .exit)) (now (parent .exit)) (now (stamp .exit))) (r .raised) (r .stamp) ⌝ }
+{
+    let mut swept = w;
+    let mut j: usize = 1;
+    while j <= clocks {
+        swept = check(parts, not_after(0, total + j), time, parent, stamp, swept);
+        j += 1;
+    }
+    swept
+}

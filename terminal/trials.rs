@@ -1,0 +1,713 @@
+//! Holds the proved library's answers to "rounds" and "plan" against a search over clock readings: thousands of small random
+//! tables, each asked for its rounds, and for plans of 1 to 5 rounds. The search shares nothing with the library or plain.rs.
+//!
+//! Prints how many tables and answers there were of each kind, and the first tables on which the two differ, with the question
+//! and the difference. Exit status 1 where one differs.
+
+#[allow(dead_code)] // Two of its four questions are asked here.
+#[path = "judge.rs"]
+mod judge;
+
+use std::array::from_fn;
+
+const TABLES: u64 = 3000;
+
+/// The most clocks and steps of a table, the most rounds that it is asked for, and the most moments of these.
+const CLOCKS: usize = 3;
+const STEPS: usize = 3;
+const ROUNDS: usize = 5;
+const MOMENTS: usize = ROUNDS * STEPS;
+
+/// Random numbers by the generator of Park and Miller.
+struct Random(u64);
+
+impl Random {
+    /// A number below n.
+    fn below(&mut self, n: usize) -> usize {
+        self.0 = self.0 * 48271 % 2147483647;
+        (self.0 / 16) as usize % n
+    }
+}
+
+// Tables. Clocks, steps and guards are counted from 0.
+
+#[derive(Clone, Copy)]
+enum Relation {
+    Under,
+    AtMost,
+    Exactly,
+    AtLeast,
+    Over,
+}
+
+/// All relations, each at the place of its number in a table's bytes.
+const RELATIONS: [Relation; 5] = [
+    Relation::Under,
+    Relation::AtMost,
+    Relation::Exactly,
+    Relation::AtLeast,
+    Relation::Over,
+];
+
+struct Guard {
+    step: usize,
+    clock: usize,
+    relation: Relation,
+    constant: u64,
+}
+
+impl Guard {
+    /// Whether it holds of a reading in parts.
+    fn holds(&self, parts: u64, reading: u64) -> bool {
+        let constant = parts * self.constant;
+        match self.relation {
+            Relation::Under => reading < constant,
+            Relation::AtMost => reading <= constant,
+            Relation::Exactly => reading == constant,
+            Relation::AtLeast => reading >= constant,
+            Relation::Over => reading > constant,
+        }
+    }
+}
+
+/// Where a step's resets are written: before its guards, after them, or at both places.
+#[derive(Clone, Copy)]
+struct Order {
+    before: bool,
+    after: bool,
+}
+
+const ORDERS: [Order; 3] = [
+    Order {
+        before: false,
+        after: true,
+    },
+    Order {
+        before: true,
+        after: false,
+    },
+    Order {
+        before: true,
+        after: true,
+    },
+];
+
+/// A small table. Of resets and orders only those of its own steps and clocks count.
+struct Table {
+    clocks: usize,
+    steps: usize,
+    /// For each step and clock, whether the step resets the clock.
+    resets: [[bool; CLOCKS]; STEPS],
+    orders: [Order; STEPS],
+    guards: Vec<Guard>,
+}
+
+impl Table {
+    /// A table of 1 to 3 clocks, 1 to 3 steps, and up to 6 guards with constants 0 to 3. Half of the tables are led: there the
+    /// last clock is never reset and bounds the rounds from above, by constants to 7, and the others make them take time.
+    fn draw(random: &mut Random) -> Table {
+        let led = random.below(2) == 1;
+        let clocks = random.below(CLOCKS) + 1;
+        let steps = random.below(STEPS) + 1;
+        let guards = random.below(7);
+        let leads = |clock: usize| led && clock + 1 == clocks;
+        // A clock is reset with a chance of a third, and in a led table of two thirds.
+        let resets = from_fn(|_| {
+            from_fn(|clock| {
+                let third = random.below(3);
+                !leads(clock) && (third == 1 || led && third == 2)
+            })
+        });
+        let orders = from_fn(|_| ORDERS[random.below(3)]);
+        let guards = (0..guards)
+            .map(|_| {
+                let step = random.below(steps);
+                let clock = random.below(clocks);
+                let relations = match (led, leads(clock)) {
+                    (false, _) => &RELATIONS[..],
+                    (true, true) => &RELATIONS[..2],
+                    (true, false) => &RELATIONS[3..],
+                };
+                let relation = relations[random.below(relations.len())];
+                // With three clocks a larger constant would make the grid too large.
+                let constants = match (led, leads(clock)) {
+                    (false, _) => 4,
+                    (true, true) if clocks < 3 => 8,
+                    (true, true) => 4,
+                    (true, false) => 2,
+                };
+                let constant = random.below(constants) as u64;
+                Guard {
+                    step,
+                    clock,
+                    relation,
+                    constant,
+                }
+            })
+            .collect();
+        Table {
+            clocks,
+            steps,
+            resets,
+            orders,
+            guards,
+        }
+    }
+
+    fn guards_of(&self, step: usize) -> impl Iterator<Item = &Guard> {
+        self.guards.iter().filter(move |guard| guard.step == step)
+    }
+
+    fn resets_of(&self, step: usize) -> impl Iterator<Item = usize> + '_ {
+        (0..self.clocks).filter(move |&clock| self.resets[step][clock])
+    }
+
+    /// The table as bytes.
+    fn bytes(&self) -> Vec<u8> {
+        let mut bytes = vec![1, self.clocks as u8];
+        for step in 0..self.steps {
+            let resets: Vec<u8> = self
+                .resets_of(step)
+                .flat_map(|clock| [3, clock as u8 + 1])
+                .collect();
+            if self.orders[step].before {
+                bytes.extend(&resets);
+            }
+            for guard in self.guards_of(step) {
+                let (clock, constant) = (guard.clock as u8 + 1, guard.constant as u8);
+                bytes.extend([2, clock, guard.relation as u8, constant, 0]);
+            }
+            if self.orders[step].after {
+                bytes.extend(&resets);
+            }
+            bytes.push(4);
+        }
+        bytes.push(5);
+        bytes
+    }
+
+    fn largest_constant(&self) -> u64 {
+        self.guards.iter().map(|g| g.constant).max().unwrap_or(0)
+    }
+
+    fn moments(&self, k: usize) -> usize {
+        k * self.steps
+    }
+
+    /// The parts to a tick in a plan for k rounds.
+    fn parts(&self, k: usize) -> u64 {
+        (self.moments(k) + self.clocks + 1) as u64
+    }
+
+    /// Whether all guards of a step hold of the readings, in parts.
+    fn allows(&self, step: usize, parts: u64, readings: [u64; CLOCKS]) -> bool {
+        self.guards_of(step)
+            .all(|guard| guard.holds(parts, readings[guard.clock]))
+    }
+
+    /// The readings once a step has reset its clocks.
+    fn after(&self, step: usize, mut readings: [u64; CLOCKS]) -> [u64; CLOCKS] {
+        for clock in self.resets_of(step) {
+            readings[clock] = 0;
+        }
+        readings
+    }
+}
+
+// The search on a grid.
+
+/// The most states of a grid.
+const STATES: usize = 32768;
+
+/// Later than any moment: the time of a state that is not reached.
+const NEVER: u64 = 1_000_000;
+
+/// Clock readings in parts, and what is known of them.
+struct State {
+    /// The state a part later.
+    later: usize,
+    /// For each step, whether the readings allow it, and the state after its resets.
+    open: [bool; STEPS],
+    after: [usize; STEPS],
+    /// For each moment, whether from here, past that moment, the rest of a run can be completed.
+    alive: [bool; MOMENTS + 1],
+    /// The least time so far.
+    time: u64,
+}
+
+/// All states. A reading above the largest constant counts as one part above it: no guard tells them apart. So a clock has
+/// `width` readings, and a state is a number: x + width * y + width * width * z for the readings x, y and z.
+struct Grid<'a> {
+    table: &'a Table,
+    moments: usize,
+    states: Vec<State>,
+}
+
+impl Grid<'_> {
+    /// The grid for k rounds with so many parts to a tick, unless it would be too large.
+    fn new(table: &Table, k: usize, parts: u64) -> Option<Grid<'_>> {
+        let width = parts * table.largest_constant() + 2;
+        let size = width.pow(table.clocks as u32) as usize;
+        (size <= STATES).then(|| Grid {
+            table,
+            moments: table.moments(k),
+            states: (0..size as u64)
+                .map(|number| State::new(table, parts, width, number))
+                .collect(),
+        })
+    }
+
+    /// Whether there is a run: backward, from which states the rest of one can be completed.
+    fn has_run(&mut self) -> bool {
+        let states = &mut self.states;
+        for state in states.iter_mut() {
+            state.alive[self.moments] = true;
+        }
+        for i in (0..self.moments).rev() {
+            let step = i % self.table.steps;
+            // In falling order: waiting leads to a state that was passed, or to the same.
+            for number in (0..states.len()).rev() {
+                let state = &states[number];
+                let takes = state.open[step] && states[state.after[step]].alive[i + 1];
+                states[number].alive[i] = takes || states[state.later].alive[i];
+            }
+        }
+        states.iter().any(|state| state.alive[0])
+    }
+
+    /// Forward, after `has_run`: for each moment the earliest over all runs, or `NEVER`.
+    fn earliest(&mut self) -> Vec<u64> {
+        (0..self.moments)
+            .map(|i| {
+                self.wait();
+                self.take(i % self.table.steps, i + 1)
+            })
+            .collect()
+    }
+
+    /// A state is reached at a time, or was earlier.
+    fn reach(&mut self, number: usize, time: u64) {
+        let state = &mut self.states[number];
+        state.time = state.time.min(time);
+    }
+
+    /// Time passes.
+    fn wait(&mut self) {
+        for number in 0..self.states.len() {
+            let state = &self.states[number];
+            self.reach(state.later, state.time + 1);
+        }
+    }
+
+    /// All states whose readings allow it take the step to moment i. The least time at which the rest of a run is possible.
+    fn take(&mut self, step: usize, i: usize) -> u64 {
+        let mut earliest = NEVER;
+        // In rising order: a reset leads to a state that was passed, or to the same.
+        for number in 0..self.states.len() {
+            let state = &mut self.states[number];
+            let left = std::mem::replace(&mut state.time, NEVER);
+            if state.open[step] {
+                let after = state.after[step];
+                self.reach(after, left);
+                if self.states[after].alive[i] {
+                    earliest = earliest.min(left);
+                }
+            }
+        }
+        earliest
+    }
+}
+
+impl State {
+    fn new(table: &Table, parts: u64, width: u64, number: u64) -> State {
+        let readings = [
+            number % width,
+            number / width % width,
+            number / width / width,
+        ];
+        let number_of = |[x, y, z]: [u64; CLOCKS]| (x + width * (y + width * z)) as usize;
+        let mut later = readings;
+        for reading in &mut later[..table.clocks] {
+            *reading = (*reading + 1).min(width - 1);
+        }
+        State {
+            later: number_of(later),
+            open: from_fn(|step| table.allows(step, parts, readings)),
+            after: from_fn(|step| number_of(table.after(step, readings))),
+            alive: [false; MOMENTS + 1],
+            time: 0,
+        }
+    }
+}
+
+// Whether a plan is a run.
+
+impl Table {
+    /// Whether the moments are a run from these readings, step by step.
+    fn runs(&self, parts: u64, times: &[u64], mut readings: [u64; CLOCKS]) -> bool {
+        let mut now = 0;
+        for (i, &time) in times.iter().enumerate() {
+            if time < now {
+                return false;
+            }
+            for reading in &mut readings {
+                *reading = reading.saturating_add(time - now);
+            }
+            let step = i % self.steps;
+            if !self.allows(step, parts, readings) {
+                return false;
+            }
+            readings = self.after(step, readings);
+            now = time;
+        }
+        true
+    }
+
+    /// The first clock, if any, that could start a part lower in a run.
+    fn too_high(&self, parts: u64, times: &[u64], starts: [u64; CLOCKS]) -> Option<usize> {
+        let mut above = (0..self.clocks).filter(|&clock| starts[clock] != 0);
+        above.find(|&clock| {
+            let mut lowered = starts;
+            lowered[clock] -= 1;
+            self.runs(parts, times, lowered)
+        })
+    }
+}
+
+// Whether a row of moments is a loop. Moment 0 is the start, the steps follow, and then each clock's last reset before the start.
+
+/// At most so many ticks from one moment to another, or under that many unless it is loose: the tighter, the smaller.
+#[derive(Clone, Copy, PartialEq, Eq, PartialOrd, Ord)]
+struct Demand {
+    bound: i64,
+    loose: bool,
+}
+
+/// What a loop is: one whose sum is below 0, or one whose sum is 0 with a strict demand.
+#[derive(PartialEq)]
+enum Loop {
+    Below,
+    Strict,
+}
+
+impl Table {
+    /// The moment of the last reset of a clock before moment i.
+    fn last_reset(&self, moments: usize, clock: usize, i: usize) -> usize {
+        (1..i)
+            .rev()
+            .find(|m| self.resets[(m - 1) % self.steps][clock])
+            .unwrap_or(moments + clock + 1)
+    }
+
+    /// The demand of a guard at moment i between two moments, if it has one.
+    fn of_guard(
+        &self,
+        moments: usize,
+        guard: &Guard,
+        i: usize,
+        pair: (usize, usize),
+    ) -> Option<Demand> {
+        let reset = self.last_reset(moments, guard.clock, i);
+        let constant = guard.constant as i64;
+        let demand = |bound, loose| Some(Demand { bound, loose });
+        if pair == (reset, i) {
+            match guard.relation {
+                Relation::Under => demand(constant, false),
+                Relation::AtMost | Relation::Exactly => demand(constant, true),
+                Relation::AtLeast | Relation::Over => None,
+            }
+        } else if pair == (i, reset) {
+            match guard.relation {
+                Relation::Under | Relation::AtMost => None,
+                Relation::Exactly | Relation::AtLeast => demand(-constant, true),
+                Relation::Over => demand(-constant, false),
+            }
+        } else {
+            None
+        }
+    }
+
+    /// The tightest demand between two moments, if there is one.
+    fn tightest(&self, moments: usize, (from, to): (usize, usize)) -> Option<Demand> {
+        // Moments do not decrease, and a clock's last reset before the start is not after it.
+        let ordered = from == to + 1 && from <= moments || from == 0 && to > moments;
+        let order = ordered.then_some(Demand {
+            bound: 0,
+            loose: true,
+        });
+        let of_guards = (1..=moments).flat_map(|i| {
+            self.guards_of((i - 1) % self.steps)
+                .filter_map(move |guard| self.of_guard(moments, guard, i, (from, to)))
+        });
+        of_guards.chain(order).min()
+    }
+
+    /// What a row is as moments of so many steps: a loop, or none.
+    fn loop_of(&self, moments: usize, row: &[u64]) -> Option<Loop> {
+        let most = (moments + self.clocks) as u64;
+        let alone = |i: usize| !row[..i].contains(&row[i]) && row[i] <= most;
+        if row.len() < 2 || !(0..row.len()).all(alone) {
+            return None;
+        }
+        let next = row.iter().cycle().skip(1);
+        let demands: Vec<Demand> = row
+            .iter()
+            .zip(next)
+            .map(|(&from, &to)| self.tightest(moments, (from as usize, to as usize)))
+            .collect::<Option<_>>()?;
+        let sum: i64 = demands.iter().map(|demand| demand.bound).sum();
+        if sum < 0 {
+            Some(Loop::Below)
+        } else if sum == 0 && demands.iter().any(|demand| !demand.loose) {
+            Some(Loop::Strict)
+        } else {
+            None
+        }
+    }
+}
+
+// The questions, put beside the search. An error says which question and what differs.
+
+/// What every place of a room holds before it is lent.
+const KEPT: u64 = 77777;
+
+/// Whether the places of a room from one on are as before.
+fn kept(room: &[u64], from: usize) -> bool {
+    room[from..].iter().all(|&place| place == KEPT)
+}
+
+/// The count that "rounds" answers, or None: without end.
+fn rounds(bytes: &[u8]) -> Result<Option<u64>, String> {
+    let mut answer = [KEPT; 4];
+    let told = judge::rounds(bytes, &mut answer);
+    match (told, answer) {
+        (true, [0, 0, count, 0]) => Ok(Some(count)),
+        (true, [0, 1, 0, 0]) => Ok(None),
+        _ => Err(format!("rounds: {told} {answer:?} is no count")),
+    }
+}
+
+/// What was seen, by kind; where there are five places, for 1 to 5 rounds.
+#[derive(Default)]
+struct Tally {
+    tables: u64,
+    differ: u64,
+    /// Tables of 0 to 4 rounds, of more, and without end.
+    counts: [u64; 7],
+    plans: [u64; ROUNDS],
+    loops: [u64; ROUNDS],
+    /// Grids that are too large.
+    skipped: [u64; ROUNDS],
+    /// Grids with twice the parts.
+    finer: [u64; ROUNDS],
+    plans_between_ticks: u64,
+    plans_starting_above: u64,
+    strict_loops: u64,
+}
+
+impl Tally {
+    /// A table put to "rounds", and to "plan" for 1 to 5 rounds: the first difference.
+    fn table(&mut self, table: &Table, bytes: &[u8]) -> Result<(), String> {
+        let count = rounds(bytes)?;
+        self.counts[count.map_or(6, |count| count.min(5) as usize)] += 1;
+        (1..=ROUNDS).try_for_each(|k| self.some_rounds(table, bytes, count, k))
+    }
+
+    /// The search for k rounds, and beside it the count and the plan, unless the grid would be too large.
+    fn some_rounds(
+        &mut self,
+        table: &Table,
+        bytes: &[u8],
+        count: Option<u64>,
+        k: usize,
+    ) -> Result<(), String> {
+        let parts = table.parts(k);
+        let Some(mut grid) = Grid::new(table, k, parts) else {
+            self.skipped[k - 1] += 1;
+            return Ok(());
+        };
+        let possible = grid.has_run();
+        let earliest = grid.earliest();
+        if earliest.last().is_some_and(|&time| time < NEVER) != possible {
+            return Err(format!(
+                "search for {k} rounds: a run backward {possible}, forward the moments {earliest:?}"
+            ));
+        }
+        if possible != count.map_or(true, |count| k as u64 <= count) {
+            let answered = count.map_or("without end".into(), |count| count.to_string());
+            let found = if possible { "a run" } else { "no run" };
+            return Err(format!(
+                "rounds: {answered}, but the search finds {found} of {k} rounds"
+            ));
+        }
+        if let Some(mut finer) = Grid::new(table, k, 2 * parts) {
+            self.finer[k - 1] += 1;
+            if finer.has_run() != possible {
+                return Err(format!(
+                    "search for {k} rounds: a run with {parts} parts {possible}, with twice as many {}",
+                    !possible
+                ));
+            }
+        }
+        self.plan(table, bytes, k, possible.then_some(&earliest))
+            .map_err(|what| format!("plan for {k} rounds: {what}"))
+    }
+
+    /// The question "plan" on k rounds, beside the earliest moments by the search, if it found a run.
+    fn plan(
+        &mut self,
+        table: &Table,
+        bytes: &[u8],
+        k: usize,
+        earliest: Option<&Vec<u64>>,
+    ) -> Result<(), String> {
+        let mut times = [KEPT; MOMENTS + 2];
+        let mut starts = [KEPT; CLOCKS + 2];
+        let mut room = [KEPT; MOMENTS + CLOCKS + 3];
+        let mut answer = [KEPT; 4];
+        let told = judge::plan(
+            bytes,
+            k as u64,
+            &mut times,
+            &mut starts,
+            &mut room,
+            &mut answer,
+        );
+        match (told, answer, earliest) {
+            (true, [0, 0, parts, 0], Some(earliest)) => {
+                if !kept(&room, 0) {
+                    return Err(format!("a plan, but the loop's room became {room:?}"));
+                }
+                self.plan_found(table, k, parts, &times, &starts, earliest)
+            }
+            (true, [0, 1, length, 0], None) => {
+                if !kept(&times, 0) || !kept(&starts, 0) {
+                    return Err(format!(
+                        "a loop, but times and starts became {times:?}, {starts:?}"
+                    ));
+                }
+                self.loop_found(table, k, length as usize, &room)
+            }
+            (true, [0, 0, _, 0], None) => Err("a plan, but the search finds no run".into()),
+            (true, [0, 1, _, 0], Some(_)) => Err("a loop, but the search finds a run".into()),
+            _ => Err(format!("{told} {answer:?} is neither a plan nor a loop")),
+        }
+    }
+
+    fn plan_found(
+        &mut self,
+        table: &Table,
+        k: usize,
+        parts: u64,
+        times: &[u64],
+        starts: &[u64],
+        earliest: &[u64],
+    ) -> Result<(), String> {
+        if parts != table.parts(k) {
+            return Err(format!("{parts} parts to a tick, not {}", table.parts(k)));
+        }
+        let moments = &times[..table.moments(k)];
+        self.plans[k - 1] += 1;
+        self.plans_between_ticks += u64::from(moments.iter().any(|time| time % parts != 0));
+        self.plans_starting_above += u64::from(starts[0] != 0);
+        if moments != earliest {
+            return Err(format!(
+                "moments {moments:?}, but by the search {earliest:?}"
+            ));
+        }
+        let readings = from_fn(|clock| starts[clock]);
+        let plan = format!(
+            "moments {moments:?} from starts {:?}",
+            &starts[..table.clocks]
+        );
+        if !table.runs(parts, moments, readings) {
+            return Err(format!("{plan} are no run"));
+        }
+        if let Some(clock) = table.too_high(parts, moments, readings) {
+            return Err(format!("{plan}: clock {} could start lower", clock + 1));
+        }
+        if !kept(times, moments.len()) || !kept(starts, table.clocks) {
+            return Err(format!("places past the plan became {times:?}, {starts:?}"));
+        }
+        Ok(())
+    }
+
+    fn loop_found(
+        &mut self,
+        table: &Table,
+        k: usize,
+        length: usize,
+        room: &[u64],
+    ) -> Result<(), String> {
+        let Some(vertices) = room.get(..length) else {
+            return Err(format!("a loop of {length} moments is too long"));
+        };
+        self.loops[k - 1] += 1;
+        match table.loop_of(table.moments(k), vertices) {
+            None => return Err(format!("{vertices:?} is no loop")),
+            Some(what) => self.strict_loops += u64::from(what == Loop::Strict),
+        }
+        if !kept(room, length) {
+            return Err(format!("places past a loop of {length} became {room:?}"));
+        }
+        Ok(())
+    }
+
+    /// What came of a table. The first ten that differ are shown.
+    fn judged(&mut self, table: &Table) {
+        let bytes = table.bytes();
+        let number = self.tables;
+        self.tables += 1;
+        if let Err(difference) = self.table(table, &bytes) {
+            self.differ += 1;
+            if self.differ <= 10 {
+                let hex: Vec<String> = bytes.iter().map(|b| format!("{b:02x}")).collect();
+                println!("differ: table {number}: {}\n  {difference}", hex.join(" "));
+            }
+        }
+    }
+
+    fn print(&self) {
+        println!("tables {}", self.tables);
+        for (rounds, tables) in self.counts[..5].iter().enumerate() {
+            println!("rounds {rounds}: {tables}");
+        }
+        println!("more, but finite: {}", self.counts[5]);
+        println!("without end: {}", self.counts[6]);
+        let by_rounds = [
+            ("plans", self.plans),
+            ("loops", self.loops),
+            ("skipped", self.skipped),
+            ("finer grids", self.finer),
+        ];
+        for (name, numbers) in by_rounds {
+            let numbers = numbers.map(|n| n.to_string()).join(" ");
+            println!("{name} for 1 to {ROUNDS} rounds: {numbers}");
+        }
+        println!(
+            "plans with a moment between ticks: {}",
+            self.plans_between_ticks
+        );
+        println!(
+            "plans that start clock 1 above 0: {}",
+            self.plans_starting_above
+        );
+        println!(
+            "loops of sum 0, a strict one among them: {}",
+            self.strict_loops
+        );
+        println!("tables that differ: {}", self.differ);
+    }
+}
+
+fn main() {
+    let mut random = Random(1);
+    let mut tally = Tally::default();
+    for _ in 0..TABLES {
+        tally.judged(&Table::draw(&mut random));
+    }
+    tally.print();
+    if tally.differ > 0 {
+        std::process::exit(1);
+    }
+}
