@@ -1,7 +1,7 @@
-//! Times the proved library beside plain Rust, question by question.
+//! Times the proved library beside plain Rust, question by question, from log-in and in mid-shift.
 //!
-//! The two sides take turns in the same run, each turn a batch of calls; the median batch counts. Time is that of this thread
-//! on a processor, so that other work on the machine does not count. The answers of the two must agree.
+//! The sides take turns in the same run, each turn a batch of calls; the median batch counts. Time is that of this thread on a
+//! processor, so that other work on the machine does not count. The answers of the two must agree.
 
 #[path = "../terminal/judge.rs"]
 mod judge;
@@ -9,6 +9,7 @@ mod judge;
 mod plain;
 
 use plain::entries;
+use std::cell::RefCell;
 use std::hint::black_box;
 
 const UNDER: u8 = 0;
@@ -125,12 +126,11 @@ fn filled(mut steps: Vec<Vec<u8>>, used: u8) -> Vec<u8> {
     table(6, &steps)
 }
 
-/// A table that was slow for passes that only go forth. Rounds last exactly 11, and less from
-/// one second step to the next, so that the second steps come late at first and each a part sooner than the one before: a way
-/// back from the last round to the first.
+/// A table that was slow for passes that only go forth. The second steps are exactly 11 apart, and the first steps less, so that
+/// the first steps come late at first and each a part sooner than the one before: a way back from the last round to the first.
 fn drifting() -> Vec<u8> {
-    let first = [guard(1, EXACTLY, 11), reset(1), reset(2)].concat();
-    let second = [guard(3, UNDER, 11), guard(2, AT_LEAST, 1), reset(3)].concat();
+    let first = [guard(3, UNDER, 11), guard(2, AT_LEAST, 1), reset(3)].concat();
+    let second = [guard(1, EXACTLY, 11), reset(1), reset(2)].concat();
     filled(vec![first, second], 3)
 }
 
@@ -161,15 +161,15 @@ fn descending() -> Vec<u8> {
     filled(steps, 2)
 }
 
-/// The slowest that bench/search.rs found, reduced to what matters. The third steps are 3,994 ticks after the fourth before them and
-/// soon after the second, and the first steps are soon after the fourth and late after the second before them: each pass forth and back
+/// The slowest that bench/search.rs found, reduced to what matters. The second steps are 3,994 ticks after the third before them and
+/// soon after the first, and the fourth steps are soon after the third and late after the first before them: each pass forth and back
 /// moves one half round.
 fn staircase() -> Vec<u8> {
     let steps = vec![
-        [guard(2, AT_MOST, 3), guard(1, AT_LEAST, 102), reset(1)].concat(),
         reset(1),
         [guard(2, EXACTLY, 3994), guard(1, AT_MOST, 6), reset(2)].concat(),
         reset(2),
+        [guard(2, AT_MOST, 3), guard(1, AT_LEAST, 102), reset(1)].concat(),
     ];
     filled(steps, 2)
 }
@@ -197,8 +197,8 @@ fn now() -> f64 {
     time.seconds as f64 * 1e9 + time.nanoseconds as f64
 }
 
-/// Median times of a call in nanoseconds, of the first and the second side.
-fn time(mut proved: impl FnMut(), mut plain: impl FnMut()) -> (f64, f64) {
+/// Median times of a call in nanoseconds, of each side.
+fn time<const N: usize>(mut sides: [&mut dyn FnMut(); N]) -> [f64; N] {
     let batch = |call: &mut dyn FnMut(), number: u32| {
         let begin = now();
         for _ in 0..number {
@@ -214,27 +214,45 @@ fn time(mut proved: impl FnMut(), mut plain: impl FnMut()) -> (f64, f64) {
         batch(call, number);
         number
     };
-    let numbers = (number(&mut proved), number(&mut plain));
-    let slow = batch(&mut proved, 1) > 5_000_000.0;
+    let numbers = sides.each_mut().map(|side| number(side));
+    let slow = sides.iter_mut().any(|side| batch(side, 1) > 5_000_000.0);
     let turns = if slow { 21 } else { 201 };
-    let (mut first, mut second) = (Vec::new(), Vec::new());
+    let mut times = [const { Vec::new() }; N];
     for _ in 0..turns {
-        first.push(batch(&mut proved, numbers.0));
-        second.push(batch(&mut plain, numbers.1));
+        for (i, side) in sides.iter_mut().enumerate() {
+            times[i].push(batch(side, numbers[i]));
+        }
     }
-    let median = |times: &mut Vec<f64>| {
+    times.map(|mut times| {
         times.sort_by(f64::total_cmp);
         times[times.len() / 2]
-    };
-    (median(&mut first), median(&mut second))
+    })
 }
 
-fn show(question: &str, times: (f64, f64)) {
-    let (proved, plain) = times;
-    println!(
-        "{question:<64} {proved:>12.0} {plain:>12.0} {:>7.2}",
-        proved / plain
-    );
+/// A line of the table: for each variant the times of the library and of plain Rust, and their ratio.
+fn show(question: &str, times: &[f64]) {
+    print!("{question:<60}");
+    for pair in times.chunks(2) {
+        print!(
+            " {:>11.0} {:>11.0} {:>6.2}",
+            pair[0],
+            pair[1],
+            pair[0] / pair[1]
+        );
+    }
+    if let [log_in, _, mid_shift, _] = times {
+        print!(" {:>9.2}", log_in / mid_shift);
+    }
+    println!();
+}
+
+/// What is said of both variants: once where it is the same.
+fn both(log_in: String, mid_shift: String) -> String {
+    if log_in == mid_shift {
+        log_in
+    } else {
+        format!("{log_in} / {mid_shift}")
+    }
 }
 
 fn bench_read(name: &str, bytes: &[u8]) {
@@ -242,27 +260,42 @@ fn bench_read(name: &str, bytes: &[u8]) {
     assert!(judge::read(bytes, &mut a) && entries::read(bytes, &mut b));
     assert_eq!(a, b);
     assert_eq!(a[0], 0);
-    let times = time(
-        || assert!(judge::read(black_box(bytes), black_box(&mut a))),
-        || assert!(entries::read(black_box(bytes), black_box(&mut b))),
-    );
-    show(&format!("read, {name}"), times);
+    let times = time([
+        &mut || assert!(judge::read(black_box(bytes), black_box(&mut a))),
+        &mut || assert!(entries::read(black_box(bytes), black_box(&mut b))),
+    ]);
+    show(&format!("read, {name}"), &times);
 }
 
+// Of the other questions there are four sides, from log-in the library and plain Rust, and the same in mid-shift. They write to the
+// same rooms.
+
 fn bench_rounds(name: &str, bytes: &[u8]) {
-    let (mut a, mut b) = ([9; 4], [9; 4]);
-    assert!(judge::rounds(bytes, &mut a) && entries::rounds(bytes, &mut b));
-    assert_eq!(a, b);
-    assert_eq!(a[0], 0);
-    let answer = match a[1] {
-        0 => format!("{}", a[2]),
+    let sides = [
+        judge::rounds,
+        entries::rounds,
+        judge::rounds_mid_shift,
+        entries::rounds_mid_shift,
+    ];
+    let answers = sides.map(|rounds| {
+        let mut answer = [9; 4];
+        assert!(rounds(bytes, &mut answer));
+        assert_eq!(answer[0], 0);
+        answer
+    });
+    assert_eq!(answers[..2], [answers[0]; 2]);
+    assert_eq!(answers[2..], [answers[2]; 2]);
+    let count = |answer: [u64; 4]| match answer[1] {
+        0 => format!("{}", answer[2]),
         _ => "without end".into(),
     };
-    let times = time(
-        || assert!(judge::rounds(black_box(bytes), black_box(&mut a))),
-        || assert!(entries::rounds(black_box(bytes), black_box(&mut b))),
-    );
-    show(&format!("rounds, {name}: {answer}"), times);
+    let mut calls = sides.map(|rounds| {
+        let mut answer = [9; 4];
+        move || assert!(rounds(black_box(bytes), black_box(&mut answer)))
+    });
+    let times = time(calls.each_mut().map(|call| call as &mut dyn FnMut()));
+    let counts = both(count(answers[0]), count(answers[2]));
+    show(&format!("rounds, {name}: {counts}"), &times);
 }
 
 /// Rooms that serve every plan.
@@ -297,61 +330,83 @@ impl Rooms {
         ));
         black_box(self);
     }
+
+    /// Whether they hold a loop.
+    fn looped(&self) -> bool {
+        self.answer[1] == 1
+    }
+
+    /// Two sides have the same answer. Which loop is written is free.
+    fn agree(&self, other: &Rooms) {
+        assert_eq!((&self.times, &self.starts), (&other.times, &other.starts));
+        assert_eq!(self.answer[..2], other.answer[..2]);
+        assert_eq!(self.answer[0], 0);
+        assert!(self.looped() || self.answer == other.answer);
+    }
 }
 
 fn bench_plan(name: &str, bytes: &[u8], k: u64) {
-    let (mut a, mut b) = (Rooms::new(), Rooms::new());
-    a.ask(judge::plan, bytes, k);
-    b.ask(entries::plan, bytes, k);
-    assert_eq!((&a.times, &a.starts), (&b.times, &b.starts));
-    assert_eq!(a.answer[..2], b.answer[..2]);
-    assert_eq!(a.answer[0], 0);
-    let looped = a.answer[1] == 1;
-    assert!(looped || a.answer == b.answer);
-    let times = time(
-        || a.ask(judge::plan, bytes, k),
-        || b.ask(entries::plan, bytes, k),
-    );
-    show(
-        &format!("plan, {name}{}", if looped { ", a loop" } else { "" }),
-        times,
-    );
+    let sides: [Plan; 4] = [
+        judge::plan,
+        entries::plan,
+        judge::plan_mid_shift,
+        entries::plan_mid_shift,
+    ];
+    let answers = sides.map(|plan| {
+        let mut rooms = Rooms::new();
+        rooms.ask(plan, bytes, k);
+        rooms
+    });
+    answers[0].agree(&answers[1]);
+    answers[2].agree(&answers[3]);
+    let rooms = &RefCell::new(Rooms::new());
+    let mut calls = sides.map(|plan| move || rooms.borrow_mut().ask(plan, bytes, k));
+    let times = time(calls.each_mut().map(|call| call as &mut dyn FnMut()));
+    let looped = match (answers[0].looped(), answers[2].looped()) {
+        (false, _) => "",
+        (true, false) => ", a loop from log-in",
+        (true, true) => ", a loop",
+    };
+    show(&format!("plan, {name}{looped}"), &times);
 }
 
 fn bench_demands(name: &str, bytes: &[u8], k: u64) {
-    let (mut row_a, mut row_b) = (vec![9; 4 * 132_102], vec![9; 4 * 132_102]);
-    let (mut a, mut b) = ([9; 4], [9; 4]);
-    assert!(judge::demands(bytes, k, &mut row_a, &mut a));
-    assert!(entries::demands(bytes, k, &mut row_b, &mut b));
-    assert_eq!((a, &row_a), (b, &row_b));
-    assert_eq!(a[0], 0);
-    let number = a[1];
-    let times = time(
-        || {
-            assert!(judge::demands(
-                black_box(bytes),
-                k,
-                black_box(&mut row_a),
-                &mut a
-            ))
-        },
-        || {
-            assert!(entries::demands(
-                black_box(bytes),
-                k,
-                black_box(&mut row_b),
-                &mut b
-            ))
-        },
-    );
-    show(&format!("demands, {name}: {number}"), times);
+    let sides = [
+        judge::demands,
+        entries::demands,
+        judge::demands_mid_shift,
+        entries::demands_mid_shift,
+    ];
+    let answers = sides.map(|demands| {
+        let (mut row, mut answer) = (vec![9; 4 * 132_108], [9; 4]);
+        assert!(demands(bytes, k, &mut row, &mut answer));
+        assert_eq!(answer[0], 0);
+        (row, answer)
+    });
+    assert!(answers[0] == answers[1] && answers[2] == answers[3]);
+    let room = &RefCell::new(answers[0].clone());
+    let mut calls = sides.map(|demands| {
+        move || {
+            let (row, answer) = &mut *room.borrow_mut();
+            assert!(demands(black_box(bytes), k, black_box(row), answer))
+        }
+    });
+    let times = time(calls.each_mut().map(|call| call as &mut dyn FnMut()));
+    let [log_in, _, mid_shift, _] = answers.map(|(_, answer)| answer[1].to_string());
+    let numbers = both(log_in, mid_shift);
+    show(&format!("demands, {name}: {numbers}"), &times);
 }
 
 fn main() {
     println!(
-        "{:<64} {:>12} {:>12} {:>7}",
-        "question", "proved ns", "plain ns", "ratio"
+        "{:<60} {:>30} {:>30} {:>9}",
+        "", "from log-in", "in mid-shift", "log-in /"
     );
+    print!("{:<60}", "question");
+    for _ in 0..2 {
+        print!(" {:>11} {:>11} {:>6}", "proved ns", "plain ns", "ratio");
+    }
+    println!(" {:>9}", "mid-shift");
     bench_read("S1, 11 bytes", S1);
     bench_read("4,096 bytes", &longest());
     bench_rounds("S2", S2);
@@ -374,7 +429,11 @@ fn main() {
         &zigzag(Some(1000)),
         170,
     );
-    bench_plan("5 steps, 64 guards, for 204: descending", &descending(), 204);
+    bench_plan(
+        "5 steps, 64 guards, for 204: descending",
+        &descending(),
+        204,
+    );
     bench_plan("4 steps, 64 guards, for 256: staircase", &staircase(), 256);
     bench_demands("S10 for 2", S10, 2);
     bench_demands("the largest row", &crowded(EXACTLY, 3), 1024);

@@ -1,7 +1,7 @@
 //! Searches for tables whose plans take many passes, by hill climbing with fixed seeds. A model of the library's order counts the
 //! passes and the checks of a plan; the search keeps what takes more checks. The slowest tables found are then timed in the library.
 //!
-//!     bench/run search [SECONDS]
+//!     bench/run search [SECONDS [mid-shift]]
 
 #[path = "../terminal/judge.rs"]
 mod judge;
@@ -49,8 +49,15 @@ struct Cost {
     checks: usize,
 }
 
+/// From log-in a pass begins with the demands that no last reset is before the start.
+#[derive(Clone, Copy, PartialEq)]
+enum Start {
+    LogIn,
+    MidShift,
+}
+
 /// The library's passes over the plan of k rounds, in a model.
-fn cost(table: &Table, k: usize) -> Cost {
+fn cost(table: &Table, start: Start, k: usize) -> Cost {
     let length = table.steps.len();
     let total = k * length;
     let parts = (total + table.clocks + 1) as i64;
@@ -102,6 +109,11 @@ fn cost(table: &Table, k: usize) -> Cost {
                 *raised = true;
             }
         };
+        if start == Start::LogIn {
+            for j in 1..=table.clocks {
+                check(total + j, 0, 0, &mut raised);
+            }
+        }
         for i in 0..total {
             check(i + 1, i, 0, &mut raised);
             for j in 1..=table.clocks {
@@ -216,21 +228,21 @@ impl Random {
 }
 
 /// The table with only those guards and resets without which a plan takes fewer passes.
-fn reduced(table: &Table, k: usize) -> Table {
-    let passes = cost(table, k).passes;
+fn reduced(table: &Table, start: Start, k: usize) -> Table {
+    let passes = cost(table, start, k).passes;
     let mut small = table.clone();
     for s in 0..small.steps.len() {
         for g in (0..small.steps[s].0.len()).rev() {
             let mut new = small.clone();
             new.steps[s].0.remove(g);
-            if cost(&new, k).passes >= passes {
+            if cost(&new, start, k).passes >= passes {
                 small = new;
             }
         }
         for j in 1..=small.clocks {
             let mut new = small.clone();
             new.steps[s].1 &= !(1 << j);
-            if cost(&new, k).passes >= passes {
+            if cost(&new, start, k).passes >= passes {
                 small = new;
             }
         }
@@ -238,8 +250,15 @@ fn reduced(table: &Table, k: usize) -> Table {
     small
 }
 
+type Plan = fn(&[u8], u64, &mut [u64], &mut [u64], &mut [u64], &mut [u64]) -> bool;
+
 fn main() {
     let seconds: u64 = std::env::args().nth(1).map_or(60, |word| word.parse().expect("seconds"));
+    let (start, plan): (_, Plan) = match std::env::args().nth(2).as_deref() {
+        None => (Start::LogIn, judge::plan),
+        Some("mid-shift") => (Start::MidShift, judge::plan_mid_shift),
+        Some(word) => panic!("{word}: only mid-shift can be asked for"),
+    };
     const SEEDS: u64 = 12;
     let mut found: Vec<(Cost, Table)> = Vec::new();
     for seed in 1..=SEEDS {
@@ -249,14 +268,14 @@ fn main() {
         // Few rounds first, where a step of the climb is quick; then as many as a plan may have.
         for steps in [120, 1024] {
             let rounds = |table: &Table| (steps / table.steps.len()).max(1);
-            best.0 = cost(&best.1, rounds(&best.1));
+            best.0 = cost(&best.1, start, rounds(&best.1));
             let until = if steps == 120 { end - (end - Instant::now()) / 3 } else { end };
             while Instant::now() < until {
                 let new = match random.below(if best.0.passes < 4 { 3 } else { 200 }) {
                     0 => random.table(),
                     _ => random.changed(&best.1),
                 };
-                let taken = cost(&new, rounds(&new));
+                let taken = cost(&new, start, rounds(&new));
                 if taken.checks >= best.0.checks {
                     best = (taken, new);
                 }
@@ -273,11 +292,11 @@ fn main() {
         let mut fastest = f64::MAX;
         for _ in 0..5 {
             let begin = Instant::now();
-            assert!(judge::plan(&bytes, k as u64, &mut times, &mut starts, &mut room, &mut answer));
+            assert!(plan(&bytes, k as u64, &mut times, &mut starts, &mut room, &mut answer));
             fastest = fastest.min(begin.elapsed().as_secs_f64() * 1e6);
         }
         let relation = |r: u8| ["under", "at most", "exactly", "at least", "over"][usize::from(r)];
-        let words: Vec<String> = reduced(table, k)
+        let words: Vec<String> = reduced(table, start, k)
             .steps
             .iter()
             .map(|(guards, resets)| {

@@ -11,14 +11,19 @@ static uint8_t table[5000];
 static size_t length;
 static uint64_t rounds_asked;
 static uint64_t times[1024], starts[6], room[1031], answer[4];
-static int64_t row[4 * 132102];
+static int64_t row[JUDGE_ROW];
 
 static void ask_read(void) { judge_read(table, length, answer, 4); }
 static void ask_rounds(void) { judge_rounds(table, length, answer, 4); }
+static void ask_rounds_mid_shift(void) { judge_rounds_mid_shift(table, length, answer, 4); }
 static void ask_plan(void) {
     judge_plan(table, length, rounds_asked, times, 1024, starts, 6, room, 1031, answer, 4);
 }
-static void ask_demands(void) { judge_demands(table, length, rounds_asked, row, 4 * 132102, answer, 4); }
+static void ask_plan_mid_shift(void) {
+    judge_plan_mid_shift(table, length, rounds_asked, times, 1024, starts, 6, room, 1031, answer, 4);
+}
+static void ask_demands(void) { judge_demands(table, length, rounds_asked, row, JUDGE_ROW, answer, 4); }
+static void ask_demands_mid_shift(void) { judge_demands_mid_shift(table, length, rounds_asked, row, JUDGE_ROW, answer, 4); }
 
 /* The bytes below this frame that a call changed, MARGIN at least. */
 static __attribute__((noinline)) size_t taken(void (*call)(void)) {
@@ -66,7 +71,7 @@ static void crowded(void) {
     put(2, (uint8_t[]){4, 5});
 }
 
-/* S11: 4,001 rounds. */
+/* S11: 4,000 rounds from log-in, 4,001 in mid-shift. */
 static void counted(void) {
     length = 0;
     put(2, (uint8_t[]){1, 2});
@@ -80,11 +85,11 @@ static int failed;
 
 static void line(const char *name, uint64_t k) {
     rounds_asked = k;
-    struct { const char *entry; void (*call)(void); } asked[] = {
-        {"read", ask_read}, {"rounds", ask_rounds}, {"plan", ask_plan}, {"demands", ask_demands}};
+    void (*asked[])(void) = {ask_read, ask_rounds, ask_plan, ask_demands,
+                             ask_rounds_mid_shift, ask_plan_mid_shift, ask_demands_mid_shift};
     printf("%-44s", name);
-    for (int i = 0; i < 4; i++) {
-        size_t bytes = taken(asked[i].call);
+    for (int i = 0; i < 7; i++) {
+        size_t bytes = taken(asked[i]);
         printf(" %8zu", bytes);
         if (bytes > LIMIT) failed = 1;
     }
@@ -100,7 +105,10 @@ static void sample(const char *path, uint64_t k) {
 }
 
 int main(void) {
-    printf("%-44s %8s %8s %8s %8s\n", "stack in bytes", "read", "rounds", "plan", "demands");
+    printf("%-44s %8s %26s %26s\n", "", "", "from log-in", "in mid-shift");
+    printf("%-44s %8s", "stack in bytes", "read");
+    for (int i = 0; i < 2; i++) printf(" %8s %8s %8s", "rounds", "plan", "demands");
+    printf("\n");
     sample("samples/S1.table", 1024);
     sample("samples/S2.table", 2);
     sample("samples/S10.table", 2);
@@ -112,7 +120,7 @@ int main(void) {
     crowded();
     line("1 step, 64 exact guards, six clocks", 1024);
     counted();
-    line("4,001 rounds", 1024);
+    line("4,000 and 4,001 rounds", 1024);
     memset(table, 3, sizeof table);
     length = 4096;
     line("refused", 1);

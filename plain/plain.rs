@@ -1,6 +1,8 @@
 //! The four questions about a timing table, in plain Rust and with no proofs. The proved library is compared with it, in what
 //! it answers (terminal/compare.rs) and in how long it takes (bench/bench.rs).
 //!
+//! All but "read" have two variants: runs from log-in, which sets every clock to 0, or in mid-shift, from any readings.
+//!
 //! A clock is 01's timer, a guard its bound, a reset its zeroing. Clocks are numbered from 1, as on the wire.
 
 /// The most bytes of a table.
@@ -41,6 +43,13 @@ pub enum Fault {
 pub struct Refusal {
     pub fault: Fault,
     pub place: usize,
+}
+
+/// With which readings the clocks may start: all 0, or any.
+#[derive(Clone, Copy, Debug, PartialEq, Eq)]
+pub enum Start {
+    LogIn,
+    MidShift,
 }
 
 /// How a guard compares its clock's reading with its constant.
@@ -91,14 +100,15 @@ pub fn read(bytes: &[u8]) -> Result<Counted, Refusal> {
 }
 
 /// "Rounds": how many rounds a table allows.
-pub fn rounds(bytes: &[u8]) -> Result<Rounds, Refusal> {
-    Ok(count(&Table::parse(bytes)?))
+pub fn rounds(bytes: &[u8], start: Start) -> Result<Rounds, Refusal> {
+    Ok(count(&Table::parse(bytes)?, start))
 }
 
 /// "Plan for k": the earliest moments in the first places of `times` and their smallest starts in those of `starts`; or a loop
 /// in those of `room`.
 pub fn plan(
     bytes: &[u8],
+    start: Start,
     k: u64,
     times: &mut [u64],
     starts: &mut [u64],
@@ -117,8 +127,8 @@ pub fn plan(
     if room.len() < parts {
         return refuse(Fault::Loop);
     }
-    let edges = Edges::of(&table, total);
-    match solve(&edges, total, parts) {
+    let edges = Edges::of(&table, start, total);
+    match solve(&edges, start, total, parts) {
         Ok(time) => {
             for (place, &t) in times.iter_mut().zip(&time[1..=total]) {
                 *place = t as u64;
@@ -141,13 +151,17 @@ pub fn plan(
 }
 
 /// "Demands for k": their number, with four numbers for each (from, to, bound, strict) in the first places of `row`.
-pub fn demands(bytes: &[u8], k: u64, row: &mut [i64]) -> Result<usize, Refusal> {
+pub fn demands(bytes: &[u8], start: Start, k: u64, row: &mut [i64]) -> Result<usize, Refusal> {
     let table = Table::parse(bytes)?;
     let total = table.total(k)?;
     let exact = |g: &&Guard| g.relation == Relation::Exactly;
     let all = table.guards[..table.ends[table.steps]].iter();
-    let number =
-        total / table.steps * (table.steps + all.len() + all.filter(exact).count()) + table.clocks;
+    let of_round = table.steps + all.len() + all.filter(exact).count();
+    let of_clock = match start {
+        Start::LogIn => 2,
+        Start::MidShift => 1,
+    };
+    let number = total / table.steps * of_round + table.clocks * of_clock;
     if row.len() < 4 * number {
         return Err(Refusal {
             fault: Fault::List,
@@ -180,6 +194,9 @@ pub fn demands(bytes: &[u8], k: u64, row: &mut [i64]) -> Result<usize, Refusal> 
     }
     for j in 1..=table.clocks {
         put(0, total + j, 0, false);
+        if start == Start::LogIn {
+            put(total + j, 0, 0, false);
+        }
     }
     Ok(number)
 }
@@ -408,7 +425,7 @@ struct Edges {
 }
 
 impl Edges {
-    fn of(table: &Table, total: usize) -> Edges {
+    fn of(table: &Table, start: Start, total: usize) -> Edges {
         let edge = |from: usize, to: usize, weight: i32| Edge {
             from: from as u16,
             to: to as u16,
@@ -420,8 +437,11 @@ impl Edges {
             *tight = tightest(table.guards_of(step), parts);
         }
         let mut forth = Vec::with_capacity(2 * (total + table.clocks));
-        let mut back = Vec::with_capacity(total);
+        let mut back = Vec::with_capacity(total + table.clocks);
         forth.extend((1..=table.clocks).map(|j| edge(0, total + j, 0)));
+        if start == Start::LogIn {
+            back.extend((1..=table.clocks).map(|j| edge(total + j, 0, 0)));
+        }
         let mut last = resets_before(total);
         for (i, step) in (1..=total).zip((0..table.steps).cycle()) {
             forth.push(edge(i, i - 1, 0));
@@ -471,7 +491,7 @@ fn tightest(guards: &[Guard], parts: i32) -> Tight {
     tight
 }
 
-/// The time of a last reset before the start that nothing bounds from below: below all that can be.
+/// The time of a last reset in mid-shift, before the start, that nothing bounds from below: below all that can be.
 const UNREACHED: i64 = i64::MIN / 2;
 
 /// The parent of a vertex that was not raised.
@@ -480,9 +500,11 @@ const NO_PARENT: u16 = u16::MAX;
 /// The least times that meet the edges, with the start at 0; or a cycle of edges that contradict each other. Passes go forth
 /// and back (Yen's order): each leaves its own edges met, so that one that raises nothing is the last. Or else the parents
 /// close a cycle.
-fn solve(edges: &Edges, total: usize, vertices: usize) -> Result<Vec<i64>, Vec<u16>> {
-    let mut time = vec![UNREACHED; vertices];
-    time[..=total].fill(0);
+fn solve(edges: &Edges, start: Start, total: usize, vertices: usize) -> Result<Vec<i64>, Vec<u16>> {
+    let mut time = vec![0; vertices];
+    if start == Start::MidShift {
+        time[total + 1..].fill(UNREACHED);
+    }
     let mut parent = vec![NO_PARENT; vertices];
     let mut marks = vec![0; vertices];
     pass(edges.forth.iter(), &mut time, &mut parent);
@@ -628,6 +650,16 @@ impl Effect {
         Some(Effect { side, bounds })
     }
 
+    /// Whether it is possible from a configuration that the start allows. Readings 0 are those where now and all last resets
+    /// have one time.
+    fn allowed(&self, start: Start) -> bool {
+        let before = self.bounds[..self.side].iter();
+        start == Start::MidShift
+            || before
+                .flat_map(|row| &row[..self.side])
+                .all(|&bound| bound >= ZERO)
+    }
+
     /// Whether two effects are possible from the same configurations.
     fn same_starts(&self, other: &Effect) -> bool {
         (0..self.side).all(|a| self.bounds[a][..self.side] == other.bounds[a][..self.side])
@@ -667,14 +699,15 @@ fn effect_of_round(table: &Table) -> Option<Effect> {
     Some(effect)
 }
 
-/// The rounds that a table allows: effects are doubled as far as they are possible, then the smaller ones added on the way
+/// The rounds that a table allows: effects are doubled as far as the start allows them, then the smaller ones added on the way
 /// back. Where twice as many rounds are possible from the same configurations, every number is.
-fn count(table: &Table) -> Rounds {
-    let Some(mut most) = effect_of_round(table) else {
+fn count(table: &Table, start: Start) -> Rounds {
+    let allowed = |effect: &Effect| effect.allowed(start);
+    let Some(mut most) = effect_of_round(table).filter(allowed) else {
         return Rounds::Count(0);
     };
     let mut smaller = Vec::new();
-    while let Some(twice) = most.then(&most) {
+    while let Some(twice) = most.then(&most).filter(allowed) {
         if twice.same_starts(&most) {
             return Rounds::WithoutEnd;
         }
@@ -682,7 +715,7 @@ fn count(table: &Table) -> Rounds {
     }
     let mut count = 1 << smaller.len();
     for (i, effect) in smaller.iter().enumerate().rev() {
-        if let Some(more) = most.then(effect) {
+        if let Some(more) = most.then(effect).filter(allowed) {
             most = more;
             count += 1 << i;
         }
@@ -691,9 +724,9 @@ fn count(table: &Table) -> Rounds {
 }
 
 /// The questions in the form of the C interface (terminal/judge.h): four numbers in the first places of a lent answer; false,
-/// and nothing done, where it has fewer than four.
+/// and nothing done, where it has fewer than four. Those that do not say mid-shift are from log-in.
 pub mod entries {
-    use super::{Plan, Refusal, Rounds};
+    use super::{Plan, Refusal, Rounds, Start};
 
     fn refusal(refusal: Refusal) -> [u64; 4] {
         [refusal.fault as u64, refusal.place as u64, 0, 0]
@@ -707,6 +740,24 @@ pub mod entries {
         true
     }
 
+    fn counted(rounds: Rounds) -> [u64; 4] {
+        match rounds {
+            Rounds::Count(count) => [0, 0, count, 0],
+            Rounds::WithoutEnd => [0, 1, 0, 0],
+        }
+    }
+
+    fn planned(plan: Plan) -> [u64; 4] {
+        match plan {
+            Plan::Found { parts } => [0, 0, parts, 0],
+            Plan::Loop { length } => [0, 1, length as u64, 0],
+        }
+    }
+
+    fn listed(number: usize) -> [u64; 4] {
+        [0, number as u64, 0, 0]
+    }
+
     pub fn read(table: &[u8], answer: &mut [u64]) -> bool {
         give(answer, || {
             let c = super::read(table)?;
@@ -715,9 +766,12 @@ pub mod entries {
     }
 
     pub fn rounds(table: &[u8], answer: &mut [u64]) -> bool {
-        give(answer, || match super::rounds(table)? {
-            Rounds::Count(count) => Ok([0, 0, count, 0]),
-            Rounds::WithoutEnd => Ok([0, 1, 0, 0]),
+        give(answer, || super::rounds(table, Start::LogIn).map(counted))
+    }
+
+    pub fn rounds_mid_shift(table: &[u8], answer: &mut [u64]) -> bool {
+        give(answer, || {
+            super::rounds(table, Start::MidShift).map(counted)
         })
     }
 
@@ -730,17 +784,32 @@ pub mod entries {
         answer: &mut [u64],
     ) -> bool {
         give(answer, || {
-            match super::plan(table, k, times, starts, room)? {
-                Plan::Found { parts } => Ok([0, 0, parts, 0]),
-                Plan::Loop { length } => Ok([0, 1, length as u64, 0]),
-            }
+            super::plan(table, Start::LogIn, k, times, starts, room).map(planned)
+        })
+    }
+
+    pub fn plan_mid_shift(
+        table: &[u8],
+        k: u64,
+        times: &mut [u64],
+        starts: &mut [u64],
+        room: &mut [u64],
+        answer: &mut [u64],
+    ) -> bool {
+        give(answer, || {
+            super::plan(table, Start::MidShift, k, times, starts, room).map(planned)
         })
     }
 
     pub fn demands(table: &[u8], k: u64, row: &mut [i64], answer: &mut [u64]) -> bool {
         give(answer, || {
-            let number = super::demands(table, k, row)?;
-            Ok([0, number as u64, 0, 0])
+            super::demands(table, Start::LogIn, k, row).map(listed)
+        })
+    }
+
+    pub fn demands_mid_shift(table: &[u8], k: u64, row: &mut [i64], answer: &mut [u64]) -> bool {
+        give(answer, || {
+            super::demands(table, Start::MidShift, k, row).map(listed)
         })
     }
 }

@@ -1,7 +1,7 @@
 //! Compares the proved library with plain Rust: 01's samples, random legal tables and damaged ones, each with all four
-//! questions, with rooms that are short, exact and longer. Every room is filled with random numbers before a call, so that what
-//! must be kept is seen to be kept. Where a loop is answered each side's loop is held to 01's definition, since which one is
-//! written is free.
+//! questions, from log-in and in mid-shift, with rooms that are short, exact and longer. Every room is filled with random numbers
+//! before a call, so that what must be kept is seen to be kept. Where a loop is answered each side's loop is held to 01's
+//! definition, since which one is written is free.
 //!
 //! Prints counts and "compare: N agreed, 0 differ". Exit status 1 where something differs, or where a kind of answer did not
 //! occur.
@@ -11,28 +11,70 @@ mod judge;
 #[path = "../plain/plain.rs"]
 mod plain;
 
+use plain::{entries, Start};
 use std::collections::{BTreeMap, HashMap, HashSet};
+use std::fmt::Arguments;
 
-/// The four questions, as one side answers them.
-struct Side {
-    read: fn(&[u8], &mut [u64]) -> bool,
-    rounds: fn(&[u8], &mut [u64]) -> bool,
+const STARTS: [Start; 2] = [Start::LogIn, Start::MidShift];
+
+fn variant(start: Start) -> &'static str {
+    match start {
+        Start::LogIn => "from log-in",
+        Start::MidShift => "in mid-shift",
+    }
+}
+
+type Short = fn(&[u8], &mut [u64]) -> bool;
+
+/// The questions in one variant, as one side answers them.
+struct Questions {
+    rounds: Short,
     plan: fn(&[u8], u64, &mut [u64], &mut [u64], &mut [u64], &mut [u64]) -> bool,
     demands: fn(&[u8], u64, &mut [i64], &mut [u64]) -> bool,
 }
 
+/// All questions, as one side answers them.
+struct Side {
+    read: Short,
+    log_in: Questions,
+    mid_shift: Questions,
+}
+
+impl Side {
+    fn questions(&self, start: Start) -> &Questions {
+        match start {
+            Start::LogIn => &self.log_in,
+            Start::MidShift => &self.mid_shift,
+        }
+    }
+}
+
 const PROVED: Side = Side {
     read: judge::read,
-    rounds: judge::rounds,
-    plan: judge::plan,
-    demands: judge::demands,
+    log_in: Questions {
+        rounds: judge::rounds,
+        plan: judge::plan,
+        demands: judge::demands,
+    },
+    mid_shift: Questions {
+        rounds: judge::rounds_mid_shift,
+        plan: judge::plan_mid_shift,
+        demands: judge::demands_mid_shift,
+    },
 };
 
 const PLAIN: Side = Side {
-    read: plain::entries::read,
-    rounds: plain::entries::rounds,
-    plan: plain::entries::plan,
-    demands: plain::entries::demands,
+    read: entries::read,
+    log_in: Questions {
+        rounds: entries::rounds,
+        plan: entries::plan,
+        demands: entries::demands,
+    },
+    mid_shift: Questions {
+        rounds: entries::rounds_mid_shift,
+        plan: entries::plan_mid_shift,
+        demands: entries::demands_mid_shift,
+    },
 };
 
 /// Random numbers from a fixed seed (splitmix64).
@@ -266,9 +308,9 @@ struct Rooms {
 }
 
 impl Rooms {
-    fn ask(&self, side: &Side, bytes: &[u8], k: u64) -> (bool, Rooms) {
+    fn ask(&self, questions: &Questions, bytes: &[u8], k: u64) -> (bool, Rooms) {
         let mut r = self.clone();
-        let told = (side.plan)(
+        let told = (questions.plan)(
             bytes,
             k,
             &mut r.times,
@@ -281,10 +323,10 @@ impl Rooms {
 }
 
 /// The demands of k rounds, by plain Rust.
-fn demands_of(bytes: &[u8], k: u64) -> Vec<[i64; 4]> {
+fn demands_of(bytes: &[u8], start: Start, k: u64) -> Vec<[i64; 4]> {
     let guards = plain::read(bytes).map_or(0, |c| c.steps + 2 * c.guards);
-    let mut row = vec![0; 4 * (k as usize * guards + plain::CLOCKS)];
-    let number = plain::demands(bytes, k, &mut row).unwrap_or(0);
+    let mut row = vec![0; 4 * (k as usize * guards + 2 * plain::CLOCKS)];
+    let number = plain::demands(bytes, start, k, &mut row).unwrap_or(0);
     row.chunks_exact(4)
         .take(number)
         .map(|d| [d[0], d[1], d[2], d[3]])
@@ -334,7 +376,14 @@ impl Compare {
     }
 
     /// Counts a comparison, and shows it where the sides differ.
-    fn tell(&mut self, same: bool, bytes: &[u8], what: &str, proved: &str, plain: &str) {
+    fn tell(
+        &mut self,
+        same: bool,
+        bytes: &[u8],
+        what: Arguments,
+        proved: Arguments,
+        plain: Arguments,
+    ) {
         if same {
             self.agreed += 1;
             return;
@@ -343,7 +392,9 @@ impl Compare {
         if self.differ <= 10 {
             let hex: Vec<String> = bytes.iter().map(|b| format!("{b:02x}")).collect();
             println!("differ: {what}\n  table {}", hex.join(" "));
-            println!("  proved {proved:.300}\n  plain  {plain:.300}");
+            for (side, answer) in [("proved", proved), ("plain ", plain)] {
+                println!("  {side} {:.300}", answer.to_string());
+            }
         }
     }
 
@@ -351,43 +402,67 @@ impl Compare {
         let number = answer[0];
         if number != 0 {
             self.saw(format!("refusal {number:2}"));
-            self.saw(format!("{question} refused"));
+            self.saw(format!("{question}: refused"));
         }
     }
 
-    /// Read or rounds, with an answer room of some length.
-    fn short_question(&mut self, name: &str, bytes: &[u8], len: usize) -> Vec<u64> {
-        let side = |s: &Side| if name == "read" { s.read } else { s.rounds };
+    /// A question that only fills an answer room, with one of some length.
+    fn short_question(
+        &mut self,
+        name: &str,
+        question: fn(&Side) -> Short,
+        bytes: &[u8],
+        len: usize,
+    ) -> Vec<u64> {
         let room = self.random.room(len);
         let (mut a, mut b) = (room.clone(), room);
-        let told = (side(&PROVED)(bytes, &mut a), side(&PLAIN)(bytes, &mut b));
-        let what = format!("{name}, answer room {len}");
+        let told = (
+            question(&PROVED)(bytes, &mut a),
+            question(&PLAIN)(bytes, &mut b),
+        );
         let same = told.0 == told.1 && a == b;
         self.tell(
             same,
             bytes,
-            &what,
-            &format!("{} {a:?}", told.0),
-            &format!("{} {b:?}", told.1),
+            format_args!("{name}, answer room {len}"),
+            format_args!("{} {a:?}", told.0),
+            format_args!("{} {b:?}", told.1),
         );
         if told.1 {
             self.saw_refusal(name, &b);
-            match (name, &b[..4]) {
-                ("read", [0, ..]) => self.saw("read answered".into()),
-                ("rounds", [0, 1, ..]) => self.saw("rounds without end".into()),
-                ("rounds", [0, 0, 0, _]) => self.saw("rounds counted, 0".into()),
-                ("rounds", [0, 0, 1..=99, _]) => self.saw("rounds counted, 1 to 99".into()),
-                ("rounds", [0, 0, _, _]) => self.saw("rounds counted, 100 and more".into()),
-                _ => {}
-            }
         } else {
             self.saw("answer room too short".into());
         }
         b
     }
 
+    fn read(&mut self, bytes: &[u8], len: usize) {
+        let answer = self.short_question("read", |side| side.read, bytes, len);
+        if matches!(answer[..], [0, _, _, _, ..]) {
+            self.saw("read answered".into());
+        }
+    }
+
+    fn rounds(&mut self, bytes: &[u8], start: Start, len: usize) -> Vec<u64> {
+        let name = format!("rounds {}", variant(start));
+        let question: fn(&Side) -> Short = match start {
+            Start::LogIn => |side| side.log_in.rounds,
+            Start::MidShift => |side| side.mid_shift.rounds,
+        };
+        let answer = self.short_question(&name, question, bytes, len);
+        match answer[..] {
+            [0, 1, _, _, ..] => self.saw(format!("{name}: without end")),
+            [0, 0, 0, _, ..] => self.saw(format!("{name}: 0")),
+            [0, 0, 1..=99, _, ..] => self.saw(format!("{name}: 1 to 99")),
+            [0, 0, _, _, ..] => self.saw(format!("{name}: 100 and more")),
+            _ => {}
+        }
+        answer
+    }
+
     /// Plan for k, with rooms of these lengths: times, starts, loop, answer.
-    fn plan(&mut self, bytes: &[u8], k: u64, lens: [usize; 4]) -> Rooms {
+    fn plan(&mut self, bytes: &[u8], start: Start, k: u64, lens: [usize; 4]) -> Rooms {
+        let name = format!("plan {}", variant(start));
         let [times, starts, room, answer] = lens.map(|len| self.random.room(len));
         let before = Rooms {
             times,
@@ -395,19 +470,19 @@ impl Compare {
             room,
             answer,
         };
-        let (told_a, a) = before.ask(&PROVED, bytes, k);
-        let (told_b, b) = before.ask(&PLAIN, bytes, k);
+        let (told_a, a) = before.ask(PROVED.questions(start), bytes, k);
+        let (told_b, b) = before.ask(PLAIN.questions(start), bytes, k);
         let answered = told_b && b.answer[0] == 0;
         let mut same = told_a == told_b;
         if !answered {
             same &= a == b;
         } else if b.answer[1] == 0 {
             let (n, total) = self.sizes(bytes, k);
-            let demands = demands_of(bytes, k);
+            let demands = demands_of(bytes, start, k);
             same &= a == b && is_run(&demands, b.answer[2], &b.times[..total], &b.starts[..n]);
-            self.saw("plan found".into());
+            self.saw(format!("{name}: found"));
         } else {
-            let demands = demands_of(bytes, k);
+            let demands = demands_of(bytes, start, k);
             for r in [&a, &b] {
                 let length = r.answer[2] as usize;
                 same &= r.answer[..2] == [0, 1]
@@ -417,41 +492,45 @@ impl Compare {
                 same = same && is_loop(&demands, &r.room[..length]);
                 self.longest_loop = self.longest_loop.max(length);
             }
-            self.saw("plan is a loop".into());
+            self.saw(format!("{name}: a loop"));
         }
         if told_b {
-            self.saw_refusal("plan", &b.answer);
+            self.saw_refusal(&name, &b.answer);
         }
-        let what = format!("plan for {k}, rooms {lens:?}");
         self.tell(
             same,
             bytes,
-            &what,
-            &format!("{told_a} {a:?}"),
-            &format!("{told_b} {b:?}"),
+            format_args!("{name} for {k}, rooms {lens:?}"),
+            format_args!("{told_a} {a:?}"),
+            format_args!("{told_b} {b:?}"),
         );
         b
     }
 
     /// Demands for k, with a row and an answer room of these lengths.
-    fn demands(&mut self, bytes: &[u8], k: u64, len: usize, answer: usize) {
+    fn demands(&mut self, bytes: &[u8], start: Start, k: u64, len: usize, answer: usize) {
+        let name = format!("demands {}", variant(start));
         let row: Vec<i64> = (0..len).map(|_| self.random.next() as i64).collect();
         let answer = self.random.room(answer);
         let (mut a, mut b) = ((row.clone(), answer.clone()), (row, answer));
         let told = (
-            (PROVED.demands)(bytes, k, &mut a.0, &mut a.1),
-            (PLAIN.demands)(bytes, k, &mut b.0, &mut b.1),
+            (PROVED.questions(start).demands)(bytes, k, &mut a.0, &mut a.1),
+            (PLAIN.questions(start).demands)(bytes, k, &mut b.0, &mut b.1),
         );
         if told.1 {
-            self.saw_refusal("demands", &b.1);
+            self.saw_refusal(&name, &b.1);
             if b.1[0] == 0 {
-                self.saw("demands answered".into());
+                self.saw(format!("{name}: answered"));
             }
         }
-        let what = format!("demands for {k}, row {len}");
         let same = told.0 == told.1 && a == b;
-        let show = |told, room: &(Vec<i64>, Vec<u64>)| format!("{told} {:?} {:?}", room.1, room.0);
-        self.tell(same, bytes, &what, &show(told.0, &a), &show(told.1, &b));
+        self.tell(
+            same,
+            bytes,
+            format_args!("{name} for {k}, row {len}"),
+            format_args!("{} {:?} {:?}", told.0, a.1, a.0),
+            format_args!("{} {:?} {:?}", told.1, b.1, b.0),
+        );
     }
 
     /// The clocks of a table and the steps of k rounds of it; 0 where there are none.
@@ -460,7 +539,7 @@ impl Compare {
     }
 
     /// Plan and demands for k, in rooms of all lengths that matter.
-    fn plan_and_demands(&mut self, bytes: &[u8], k: u64) -> Rooms {
+    fn plan_and_demands(&mut self, bytes: &[u8], start: Start, k: u64) -> Rooms {
         let (n, total) = self.sizes(bytes, k);
         let legal = (1..=plain::TOTAL).contains(&total) && k <= plain::TOTAL as u64;
         let (times, room) = if legal {
@@ -469,34 +548,46 @@ impl Compare {
             (7, 9)
         };
         let more = self.random.within(1, 5);
-        self.plan(bytes, k, [times + more, n + more, room + more, 4 + more]);
-        self.plan(bytes, k, [times - 1, n, room, 4]);
-        self.plan(bytes, k, [times, n.saturating_sub(1), room, 4]);
-        self.plan(bytes, k, [times, n, room - 1, 4]);
-        self.plan(bytes, k, [0, 0, 0, 4 + more]);
+        self.plan(
+            bytes,
+            start,
+            k,
+            [times + more, n + more, room + more, 4 + more],
+        );
+        self.plan(bytes, start, k, [times - 1, n, room, 4]);
+        self.plan(bytes, start, k, [times, n.saturating_sub(1), room, 4]);
+        self.plan(bytes, start, k, [times, n, room - 1, 4]);
+        self.plan(bytes, start, k, [0, 0, 0, 4 + more]);
         let short = self.random.within(0, 3);
-        self.plan(bytes, k, [times, n, room, short]);
+        self.plan(bytes, start, k, [times, n, room, short]);
         let places = if legal {
-            4 * demands_of(bytes, k).len()
+            4 * demands_of(bytes, start, k).len()
         } else {
             16
         };
-        self.demands(bytes, k, places, 4);
-        self.demands(bytes, k, places + more, 4 + more);
-        self.demands(bytes, k, places.saturating_sub(1), 4);
-        self.demands(bytes, k, 0, 4);
-        self.demands(bytes, k, places, short);
-        self.plan(bytes, k, [times, n, room, 4])
+        self.demands(bytes, start, k, places, 4);
+        self.demands(bytes, start, k, places + more, 4 + more);
+        self.demands(bytes, start, k, places.saturating_sub(1), 4);
+        self.demands(bytes, start, k, 0, 4);
+        self.demands(bytes, start, k, places, short);
+        self.plan(bytes, start, k, [times, n, room, 4])
     }
 
     /// All questions about some bytes.
     fn all(&mut self, bytes: &[u8]) {
-        for len in [0, 3, 9] {
-            self.short_question("read", bytes, len);
-            self.short_question("rounds", bytes, len);
+        for len in [0, 3, 4, 9] {
+            self.read(bytes, len);
         }
-        self.short_question("read", bytes, 4);
-        let rounds = self.short_question("rounds", bytes, 4);
+        for start in STARTS {
+            self.all_from(bytes, start);
+        }
+    }
+
+    fn all_from(&mut self, bytes: &[u8], start: Start) {
+        for len in [0, 3, 9] {
+            self.rounds(bytes, start, len);
+        }
+        let rounds = self.rounds(bytes, start, 4);
         let steps = plain::read(bytes).map_or(1, |c| c.steps) as u64;
         let most = plain::TOTAL as u64 / steps;
         let small = self.random.within(1, 9) as u64;
@@ -516,12 +607,13 @@ impl Compare {
             ks.extend([rounds[2], rounds[2] + 1]);
         }
         for k in ks {
-            let plan = self.plan_and_demands(bytes, k);
+            let plan = self.plan_and_demands(bytes, start, k);
             if rounds[0] == 0 && plan.answer[0] == 0 {
                 // A plan exists just where the count allows it.
                 let allowed = rounds[1] == 1 || k <= rounds[2];
                 let same = allowed == (plan.answer[1] == 0);
-                self.tell(same, bytes, &format!("rounds and plan for {k}"), "", "");
+                let what = format_args!("rounds and plan {} for {k}", variant(start));
+                self.tell(same, bytes, what, format_args!(""), format_args!(""));
             }
         }
     }
@@ -529,41 +621,68 @@ impl Compare {
 
 // Samples.
 
-/// One of 01's samples: the rounds that it allows (None: without end), and of a plan k, P, the moments and the starts.
+/// What is known of a sample in a variant: the rounds that it allows (None: without end), and of a plan k, P, the moments and the
+/// starts.
+type Known = (
+    Option<u64>,
+    Option<(u64, u64, &'static [u64], &'static [u64])>,
+);
+
+/// One of 01's samples.
 struct Sample {
     name: &'static str,
     bytes: &'static [u8],
-    rounds: Option<u64>,
-    plan: Option<(u64, u64, &'static [u64], &'static [u64])>,
+    log_in: Known,
+    mid_shift: Known,
 }
 
 macro_rules! sample {
-    ($name:literal, $rounds:expr, $plan:expr) => {
+    ($name:literal, $log_in:expr, $mid_shift:expr) => {
         Sample {
             name: $name,
             bytes: include_bytes!(concat!("../samples/", $name, ".table")),
-            rounds: $rounds,
-            plan: $plan,
+            log_in: $log_in,
+            mid_shift: $mid_shift,
         }
     };
 }
 
 const SAMPLES: [Sample; 11] = [
-    sample!("S1", None, Some((2, 4, &[0, 12], &[12]))),
-    sample!("S2", Some(2), Some((2, 5, &[0, 15], &[15, 0]))),
-    sample!("S3", Some(2), None),
-    sample!("S4", Some(3), None),
-    sample!("S5", Some(1), None),
-    sample!("S6", Some(0), None),
-    sample!("S7", Some(0), None),
-    sample!("S8", None, Some((3, 6, &[0, 1, 2], &[1, 0]))),
-    sample!("S9", None, Some((2, 4, &[0, 0], &[8]))),
-    sample!("S10", None, Some((2, 7, &[0, 21, 21, 42], &[0, 0]))),
-    sample!("S11", Some(4001), None),
+    sample!(
+        "S1",
+        (None, Some((2, 4, &[12, 24], &[0]))),
+        (None, Some((2, 4, &[0, 12], &[12])))
+    ),
+    sample!(
+        "S2",
+        (Some(1), Some((1, 4, &[12], &[0, 0]))),
+        (Some(2), Some((2, 5, &[0, 15], &[15, 0])))
+    ),
+    sample!("S3", (Some(1), None), (Some(2), None)),
+    sample!("S4", (Some(2), None), (Some(3), None)),
+    sample!("S5", (Some(0), None), (Some(1), None)),
+    sample!("S6", (Some(0), None), (Some(0), None)),
+    sample!("S7", (Some(0), None), (Some(0), None)),
+    sample!(
+        "S8",
+        (None, Some((3, 6, &[1, 2, 3], &[0, 0]))),
+        (None, Some((3, 6, &[0, 1, 2], &[1, 0])))
+    ),
+    sample!(
+        "S9",
+        (None, Some((2, 4, &[8, 8], &[0]))),
+        (None, Some((2, 4, &[0, 0], &[8])))
+    ),
+    sample!(
+        "S10",
+        (None, Some((2, 7, &[0, 21, 21, 42], &[0, 0]))),
+        (None, Some((2, 7, &[0, 21, 21, 42], &[0, 0])))
+    ),
+    sample!("S11", (Some(4000), None), (Some(4001), None)),
 ];
 
 impl Compare {
-    /// Both sides give the answer that 01 names.
+    /// Both sides give the answer that is known.
     fn named(
         &mut self,
         bytes: &[u8],
@@ -577,29 +696,53 @@ impl Compare {
         self.tell(
             same,
             bytes,
-            &format!("{what}, 01 has {expected:?}"),
-            &format!("{a:?}"),
-            &format!("{b:?}"),
+            format_args!("{what}, known {expected:?}"),
+            format_args!("{a:?}"),
+            format_args!("{b:?}"),
         );
     }
 
-    fn named_plan(&mut self, bytes: &[u8], what: &str, k: u64, expected: [u64; 4]) {
-        self.named(bytes, what, expected, |side, answer| {
+    fn named_plan(&mut self, bytes: &[u8], start: Start, k: u64, expected: [u64; 4]) {
+        let what = format!("plan {} for {k}", variant(start));
+        self.named(bytes, &what, expected, |side, answer| {
             let (mut times, mut starts, mut room) = ([0; 1024], [0; 6], [0; 1031]);
-            (side.plan)(bytes, k, &mut times, &mut starts, &mut room, answer)
+            let plan = side.questions(start).plan;
+            plan(bytes, k, &mut times, &mut starts, &mut room, answer)
         });
     }
 
+    fn named_demands(&mut self, bytes: &[u8], start: Start, k: u64, number: usize) {
+        for (len, expected) in [
+            (4 * number, [0, number as u64, 0, 0]),
+            (4 * number - 1, [15, 0, 0, 0]),
+        ] {
+            let what = format!("demands {} for {k}, row {len}", variant(start));
+            self.named(bytes, &what, expected, |side, answer| {
+                (side.questions(start).demands)(bytes, k, &mut vec![0; len], answer)
+            });
+        }
+    }
+
     fn sample(&mut self, s: &Sample) {
-        let expected = s.rounds.map_or([0, 1, 0, 0], |count| [0, 0, count, 0]);
-        self.named(s.bytes, s.name, expected, |side, answer| {
-            (side.rounds)(s.bytes, answer)
-        });
-        if let Some((k, parts, times, starts)) = s.plan {
-            self.named_plan(s.bytes, s.name, k, [0, 0, parts, 0]);
-            let r = self.plan(s.bytes, k, [times.len(), starts.len(), parts as usize, 4]);
-            let same = r.times == times && r.starts == starts;
-            self.tell(same, s.bytes, s.name, "", &format!("{r:?}"));
+        for (start, (rounds, plan)) in [(Start::LogIn, s.log_in), (Start::MidShift, s.mid_shift)] {
+            let expected = rounds.map_or([0, 1, 0, 0], |count| [0, 0, count, 0]);
+            let what = format!("{} {}", s.name, variant(start));
+            self.named(s.bytes, &what, expected, |side, answer| {
+                (side.questions(start).rounds)(s.bytes, answer)
+            });
+            if let Some((k, parts, times, starts)) = plan {
+                self.named_plan(s.bytes, start, k, [0, 0, parts, 0]);
+                let lens = [times.len(), starts.len(), parts as usize, 4];
+                let r = self.plan(s.bytes, start, k, lens);
+                let same = r.times == times && r.starts == starts;
+                self.tell(
+                    same,
+                    s.bytes,
+                    format_args!("{what}"),
+                    format_args!(""),
+                    format_args!("{r:?}"),
+                );
+            }
         }
         self.all(s.bytes);
     }
@@ -632,12 +775,36 @@ impl Compare {
             });
             self.all(&bytes);
         }
-        let loop_of_3 = [0, 1, 5, 0];
-        self.named_plan(SAMPLES[1].bytes, "S2 for 3", 3, loop_of_3);
-        self.named_plan(SAMPLES[10].bytes, "S11 for 4,001", 4001, [11, 0, 0, 0]);
-        self.named_plan(SAMPLES[0].bytes, "S1 for 1,024", 1024, [0, 0, 1026, 0]);
-        self.named_plan(SAMPLES[0].bytes, "S1 for 1,025", 1025, [11, 0, 0, 0]);
+        let (s1, s2, s11) = (SAMPLES[0].bytes, SAMPLES[1].bytes, SAMPLES[10].bytes);
+        self.named_plan(s2, Start::LogIn, 2, [0, 1, 5, 0]);
+        self.named_plan(s2, Start::MidShift, 3, [0, 1, 5, 0]);
+        let crowded = table(6, &[vec![guard(6, EXACTLY, 3); 64]]);
+        self.named_demands(&crowded, Start::LogIn, 1024, 132_108);
+        self.named_demands(&crowded, Start::MidShift, 1024, 132_102);
+        for start in STARTS {
+            self.named_plan(s11, start, 4001, [11, 0, 0, 0]);
+            self.named_plan(s1, start, 1024, [0, 0, 1026, 0]);
+            self.named_plan(s1, start, 1025, [11, 0, 0, 0]);
+        }
     }
+}
+
+/// What must occur: every refusal, and in both variants every kind of answer.
+fn kinds() -> impl Iterator<Item = String> {
+    let refusals = (1..=15).map(|number| format!("refusal {number:2}"));
+    let answers = STARTS.into_iter().flat_map(|start| {
+        [
+            ("rounds", "without end"),
+            ("rounds", "0"),
+            ("rounds", "1 to 99"),
+            ("rounds", "100 and more"),
+            ("plan", "found"),
+            ("plan", "a loop"),
+            ("demands", "answered"),
+        ]
+        .map(|(question, kind)| format!("{question} {}: {kind}", variant(start)))
+    });
+    refusals.chain(answers)
 }
 
 fn main() {
@@ -656,7 +823,13 @@ fn main() {
     for _ in 0..legal_tables {
         let bytes = legal(&mut compare.random);
         let accepted = plain::read(&bytes).is_ok();
-        compare.tell(accepted, &bytes, "a legal table", "", "refused");
+        compare.tell(
+            accepted,
+            &bytes,
+            format_args!("a legal table"),
+            format_args!(""),
+            format_args!("refused"),
+        );
         compare.all(&bytes);
     }
     for _ in 0..damaged_tables {
@@ -671,11 +844,11 @@ fn main() {
         println!("{what}: {number}");
     }
     println!("longest loop: {} moments", compare.longest_loop);
-    let missing: Vec<u64> = (1..=15)
-        .filter(|number| !compare.seen.contains_key(&format!("refusal {number:2}")))
+    let missing: Vec<String> = kinds()
+        .filter(|kind| !compare.seen.contains_key(kind))
         .collect();
     if !missing.is_empty() {
-        println!("refusals that did not occur: {missing:?}");
+        println!("did not occur: {missing:?}");
     }
     println!(
         "compare: {} agreed, {} differ",

@@ -1,4 +1,4 @@
-/* What a terminal shows at log-in for a timing table; `usage` says how it is asked. */
+/* What a terminal shows for a timing table, at log-in or in mid-shift; `usage` says how it is asked. */
 #include "judge.h"
 
 #include <errno.h>
@@ -10,12 +10,15 @@
 enum { ALLOWED = 0, NOT_ALLOWED = 1, REFUSED = 2, TROUBLE = 3 };
 
 static const char usage[] =
-    "usage: terminal [FILE [K]]\n"
+    "usage: terminal [mid-shift] [FILE [K]]\n"
     "       terminal --help\n"
     "\n"
     "The table is read from FILE, or from standard input without one or with \"-\". Shown are whether the table is allowed, how\n"
     "many rounds it allows and the plan of 2 rounds, or of 1 where it allows no more. With K the plan of K rounds is shown\n"
     "instead. Where there is no run, the loop of demands that contradict each other is shown in words.\n"
+    "\n"
+    "The table is judged from log-in, where every clock starts at 0. With the word mid-shift first it is judged in mid-shift,\n"
+    "where the clocks may start at any readings; the plan shows the smallest that serve. (A FILE of that name: ./mid-shift.)\n"
     "\n"
     "Exit status: 0 the table allows rounds (with K: it allows K rounds); 1 it does not; 2 it is refused; 3 the program could\n"
     "not ask.\n";
@@ -24,11 +27,34 @@ static const char usage[] =
 static uint8_t table[JUDGE_TABLE + 1];
 static size_t table_len;
 
+static bool mid_shift;
 static uint64_t clocks, steps;
 static uint64_t times[JUDGE_TIMES], starts[JUDGE_STARTS], loop[JUDGE_LOOP];
 static int64_t row[JUDGE_ROW];
 
 #define ROOM(a) (a), sizeof(a) / sizeof *(a)
+
+/* The questions in the variant that is asked for. */
+static void ask_rounds(uint64_t *answer, size_t answer_len)
+{
+    (mid_shift ? judge_rounds_mid_shift : judge_rounds)(table, table_len, answer, answer_len);
+}
+
+static void ask_plan(uint64_t k, uint64_t *answer, size_t answer_len)
+{
+    (mid_shift ? judge_plan_mid_shift : judge_plan)(table, table_len, k, ROOM(times), ROOM(starts), ROOM(loop), answer,
+                                                    answer_len);
+}
+
+static void ask_demands(uint64_t k, uint64_t *answer, size_t answer_len)
+{
+    (mid_shift ? judge_demands_mid_shift : judge_demands)(table, table_len, k, ROOM(row), answer, answer_len);
+}
+
+static const char *variant(void)
+{
+    return mid_shift ? "in mid-shift" : "from log-in";
+}
 
 static const char *plural(uint64_t n)
 {
@@ -51,14 +77,14 @@ static int show_refusal(const uint64_t *answer)
     return REFUSED;
 }
 
-/* A moment of k rounds: the start, a scan, or the last reset of a clock before the start. */
+/* A moment of k rounds: the start, a scan, or the last reset of a clock before the start. Log-in is the start, and resets all. */
 static void show_moment(uint64_t k, uint64_t moment)
 {
     uint64_t total = k * steps;
     if (moment == 0)
-        printf("the start");
+        printf(mid_shift ? "the start" : "log-in");
     else if (moment > total)
-        printf("clock %" PRIu64 "'s last reset before the start", moment - total);
+        printf("clock %" PRIu64 "'s %s", moment - total, mid_shift ? "last reset before the start" : "reset at log-in");
     else if (steps == 1)
         printf("scan %" PRIu64, moment);
     else
@@ -121,10 +147,10 @@ static uint64_t latest(uint64_t total, uint64_t length)
 static int show_loop(uint64_t k, uint64_t length)
 {
     uint64_t answer[JUDGE_ANSWER];
-    judge_demands(table, table_len, k, ROOM(row), ROOM(answer));
+    ask_demands(k, ROOM(answer));
     if (answer[0] != 0)
         return show_refusal(answer);
-    printf("no plan of %" PRIu64 " round%s: these demands contradict each other\n", k, plural(k));
+    printf("no plan of %" PRIu64 " round%s %s: these demands contradict each other\n", k, plural(k), variant());
     int64_t sum = 0;
     bool strict = false;
     uint64_t first = latest(k * steps, length);
@@ -146,12 +172,12 @@ static int show_loop(uint64_t k, uint64_t length)
 static int show_plan(uint64_t k)
 {
     uint64_t answer[JUDGE_ANSWER];
-    judge_plan(table, table_len, k, ROOM(times), ROOM(starts), ROOM(loop), ROOM(answer));
+    ask_plan(k, ROOM(answer));
     if (answer[0] != 0)
         return show_refusal(answer);
     if (answer[1] != 0)
         return show_loop(k, answer[2]);
-    printf("plan of %" PRIu64 " round%s, %" PRIu64 " parts to a tick\n", k, plural(k), answer[2]);
+    printf("plan of %" PRIu64 " round%s %s, %" PRIu64 " parts to a tick\n", k, plural(k), variant(), answer[2]);
     for (uint64_t j = 0; j < clocks; j++)
         printf("  clock %" PRIu64 " starts at %" PRIu64 "\n", j + 1, starts[j]);
     for (uint64_t i = 0; i < k * steps; i++) {
@@ -171,10 +197,10 @@ static int show_table(bool asked, uint64_t k)
     clocks = answer[1];
     steps = answer[2];
     uint64_t guards = answer[3];
-    judge_rounds(table, table_len, ROOM(answer));
+    ask_rounds(ROOM(answer));
     bool endless = answer[1] == 1;
     uint64_t count = answer[2];
-    printf(endless || count > 0 ? "allowed: " : "not allowed: ");
+    printf("%s %s: ", endless || count > 0 ? "allowed" : "not allowed", variant());
     if (endless)
         printf("rounds without end");
     else
@@ -214,6 +240,11 @@ int main(int argc, char **argv)
     uint64_t k = 0;
     if (argc == 2 && strcmp(argv[1], "--help") == 0)
         return fputs(usage, stdout) < 0 || fflush(stdout) != 0 ? TROUBLE : 0;
+    mid_shift = argc > 1 && strcmp(argv[1], "mid-shift") == 0;
+    if (mid_shift) {
+        argc--;
+        argv++;
+    }
     if (argc > 3 || (argc == 3 && !number(argv[2], &k))) {
         fputs(usage, stderr);
         return TROUBLE;

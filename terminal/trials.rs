@@ -1,10 +1,11 @@
 //! Holds the proved library's answers to "rounds" and "plan" against a search over clock readings: thousands of small random
-//! tables, each asked for its rounds, and for plans of 1 to 5 rounds. The search shares nothing with the library or plain.rs.
+//! tables, each asked for its rounds, and for plans of 1 to 5 rounds, from log-in and in mid-shift. The search shares nothing with
+//! the library or plain.rs. Also holds the two variants against each other, in counts, plans and demands.
 //!
 //! Prints how many tables and answers there were of each kind, and the first tables on which the two differ, with the question
 //! and the difference. Exit status 1 where one differs.
 
-#[allow(dead_code)] // Two of its four questions are asked here.
+#[allow(dead_code)] // All questions but "read" are asked here.
 #[path = "judge.rs"]
 mod judge;
 
@@ -12,11 +13,30 @@ use std::array::from_fn;
 
 const TABLES: u64 = 3000;
 
-/// The most clocks and steps of a table, the most rounds that it is asked for, and the most moments of these.
+/// The most clocks, steps and guards of a table, the most rounds that it is asked for, and the most moments of these.
 const CLOCKS: usize = 3;
 const STEPS: usize = 3;
+const GUARDS: usize = 6;
 const ROUNDS: usize = 5;
 const MOMENTS: usize = ROUNDS * STEPS;
+
+/// With which readings the clocks may start: all 0, or any.
+#[derive(Clone, Copy, PartialEq)]
+enum Start {
+    LogIn,
+    MidShift,
+}
+
+const STARTS: [Start; 2] = [Start::LogIn, Start::MidShift];
+
+impl Start {
+    fn name(self) -> &'static str {
+        match self {
+            Start::LogIn => "from log-in",
+            Start::MidShift => "in mid-shift",
+        }
+    }
+}
 
 /// Random numbers by the generator of Park and Miller.
 struct Random(u64);
@@ -109,7 +129,7 @@ impl Table {
         let led = random.below(2) == 1;
         let clocks = random.below(CLOCKS) + 1;
         let steps = random.below(STEPS) + 1;
-        let guards = random.below(7);
+        let guards = random.below(GUARDS + 1);
         let leads = |clock: usize| led && clock + 1 == clocks;
         // A clock is reset with a chance of a third, and in a led table of two thirds.
         let resets = from_fn(|_| {
@@ -186,6 +206,22 @@ impl Table {
         bytes
     }
 
+    /// The table with weak guards in place of strict ones.
+    fn weakened(&self) -> Table {
+        let weak = |guard: &Guard| Guard {
+            relation: match guard.relation {
+                Relation::Under => Relation::AtMost,
+                Relation::Over => Relation::AtLeast,
+                relation => relation,
+            },
+            ..*guard
+        };
+        Table {
+            guards: self.guards.iter().map(weak).collect(),
+            ..*self
+        }
+    }
+
     fn largest_constant(&self) -> u64 {
         self.guards.iter().map(|g| g.constant).max().unwrap_or(0)
     }
@@ -257,8 +293,8 @@ impl Grid<'_> {
         })
     }
 
-    /// Whether there is a run: backward, from which states the rest of one can be completed.
-    fn has_run(&mut self) -> bool {
+    /// Backward: from which states the rest of a run can be completed.
+    fn complete(&mut self) {
         let states = &mut self.states;
         for state in states.iter_mut() {
             state.alive[self.moments] = true;
@@ -272,11 +308,29 @@ impl Grid<'_> {
                 states[number].alive[i] = takes || states[state.later].alive[i];
             }
         }
-        states.iter().any(|state| state.alive[0])
     }
 
-    /// Forward, after `has_run`: for each moment the earliest over all runs, or `NEVER`.
-    fn earliest(&mut self) -> Vec<u64> {
+    /// The states that a run may start in. State 0 is that of readings 0.
+    fn starts(&mut self, start: Start) -> &mut [State] {
+        match start {
+            Start::LogIn => &mut self.states[..1],
+            Start::MidShift => &mut self.states,
+        }
+    }
+
+    /// After `complete`: whether there is a run.
+    fn has_run(&mut self, start: Start) -> bool {
+        self.starts(start).iter().any(|state| state.alive[0])
+    }
+
+    /// Forward, after `complete`: for each moment the earliest over all runs, or `NEVER`.
+    fn earliest(&mut self, start: Start) -> Vec<u64> {
+        for state in &mut self.states {
+            state.time = NEVER;
+        }
+        for state in self.starts(start) {
+            state.time = 0;
+        }
         (0..self.moments)
             .map(|i| {
                 self.wait();
@@ -306,7 +360,7 @@ impl Grid<'_> {
         for number in 0..self.states.len() {
             let state = &mut self.states[number];
             let left = std::mem::replace(&mut state.time, NEVER);
-            if state.open[step] {
+            if left < NEVER && state.open[step] {
                 let after = state.after[step];
                 self.reach(after, left);
                 if self.states[after].alive[i] {
@@ -335,7 +389,7 @@ impl State {
             open: from_fn(|step| table.allows(step, parts, readings)),
             after: from_fn(|step| number_of(table.after(step, readings))),
             alive: [false; MOMENTS + 1],
-            time: 0,
+            time: NEVER,
         }
     }
 }
@@ -428,9 +482,11 @@ impl Table {
     }
 
     /// The tightest demand between two moments, if there is one.
-    fn tightest(&self, moments: usize, (from, to): (usize, usize)) -> Option<Demand> {
-        // Moments do not decrease, and a clock's last reset before the start is not after it.
-        let ordered = from == to + 1 && from <= moments || from == 0 && to > moments;
+    fn tightest(&self, start: Start, moments: usize, (from, to): (usize, usize)) -> Option<Demand> {
+        // Moments do not decrease, and a clock's last reset before the start is not after it, nor before log-in.
+        let ordered = from == to + 1 && from <= moments
+            || from == 0 && to > moments
+            || start == Start::LogIn && from > moments && to == 0;
         let order = ordered.then_some(Demand {
             bound: 0,
             loose: true,
@@ -443,7 +499,7 @@ impl Table {
     }
 
     /// What a row is as moments of so many steps: a loop, or none.
-    fn loop_of(&self, moments: usize, row: &[u64]) -> Option<Loop> {
+    fn loop_of(&self, start: Start, moments: usize, row: &[u64]) -> Option<Loop> {
         let most = (moments + self.clocks) as u64;
         let alone = |i: usize| !row[..i].contains(&row[i]) && row[i] <= most;
         if row.len() < 2 || !(0..row.len()).all(alone) {
@@ -453,7 +509,7 @@ impl Table {
         let demands: Vec<Demand> = row
             .iter()
             .zip(next)
-            .map(|(&from, &to)| self.tightest(moments, (from as usize, to as usize)))
+            .map(|(&from, &to)| self.tightest(start, moments, (from as usize, to as usize)))
             .collect::<Option<_>>()?;
         let sum: i64 = demands.iter().map(|demand| demand.bound).sum();
         if sum < 0 {
@@ -477,96 +533,220 @@ fn kept(room: &[u64], from: usize) -> bool {
 }
 
 /// The count that "rounds" answers, or None: without end.
-fn rounds(bytes: &[u8]) -> Result<Option<u64>, String> {
+fn rounds(bytes: &[u8], start: Start) -> Result<Option<u64>, String> {
     let mut answer = [KEPT; 4];
-    let told = judge::rounds(bytes, &mut answer);
+    let told = match start {
+        Start::LogIn => judge::rounds(bytes, &mut answer),
+        Start::MidShift => judge::rounds_mid_shift(bytes, &mut answer),
+    };
     match (told, answer) {
         (true, [0, 0, count, 0]) => Ok(Some(count)),
         (true, [0, 1, 0, 0]) => Ok(None),
-        _ => Err(format!("rounds: {told} {answer:?} is no count")),
+        _ => Err(format!(
+            "rounds {}: {told} {answer:?} is no count",
+            start.name()
+        )),
     }
 }
 
-/// What was seen, by kind; where there are five places, for 1 to 5 rounds.
+/// Whether a count allows k rounds.
+fn allows(count: Option<u64>, k: usize) -> bool {
+    count.is_none_or(|count| k as u64 <= count)
+}
+
+fn in_words(count: Option<u64>) -> String {
+    count.map_or("without end".into(), |count| count.to_string())
+}
+
+/// The demands of k rounds, four numbers to each.
+fn demands(bytes: &[u8], start: Start, k: usize) -> Result<Vec<[i64; 4]>, String> {
+    const KEPT: i64 = self::KEPT as i64;
+    let mut row = [KEPT; 4 * (MOMENTS + 2 * GUARDS * ROUNDS + 2 * CLOCKS)];
+    let mut answer = [self::KEPT; 4];
+    let told = match start {
+        Start::LogIn => judge::demands(bytes, k as u64, &mut row, &mut answer),
+        Start::MidShift => judge::demands_mid_shift(bytes, k as u64, &mut row, &mut answer),
+    };
+    if let (true, [0, number, 0, 0]) = (told, answer) {
+        if let Some((first, rest)) = row.split_at_checked(4 * number as usize) {
+            if rest.iter().all(|&place| place == KEPT) {
+                return Ok(first.chunks(4).map(|d| from_fn(|i| d[i])).collect());
+            }
+        }
+    }
+    let name = start.name();
+    Err(format!(
+        "demands {name} for {k} rounds: {told} {answer:?}, row {row:?}"
+    ))
+}
+
+/// Holds the demands from log-in against those in mid-shift: straight after that of each clock's last reset stands its partner.
+fn demands_agree(table: &Table, bytes: &[u8], k: usize) -> Result<(), String> {
+    let log_in = demands(bytes, Start::LogIn, k)?;
+    let mid_shift = demands(bytes, Start::MidShift, k)?;
+    let steps = &mid_shift[..mid_shift.len().saturating_sub(table.clocks)];
+    let resets = (1..=table.clocks).map(|clock| (table.moments(k) + clock) as i64);
+    let of_resets: Vec<_> = resets.clone().map(|reset| [0, reset, 0, 0]).collect();
+    let and_partners: Vec<_> = resets
+        .flat_map(|reset| [[0, reset, 0, 0], [reset, 0, 0, 0]])
+        .collect();
+    if mid_shift != [steps, &of_resets].concat() || log_in != [steps, &and_partners].concat() {
+        return Err(format!(
+            "demands for {k} rounds: {log_in:?} from log-in, but {mid_shift:?} in mid-shift"
+        ));
+    }
+    Ok(())
+}
+
+/// What was seen in one variant, by kind; where there are five places, for 1 to 5 rounds.
 #[derive(Default)]
-struct Tally {
-    tables: u64,
-    differ: u64,
+struct Seen {
     /// Tables of 0 to 4 rounds, of more, and without end.
     counts: [u64; 7],
     plans: [u64; ROUNDS],
     loops: [u64; ROUNDS],
-    /// Grids that are too large.
-    skipped: [u64; ROUNDS],
-    /// Grids with twice the parts.
-    finer: [u64; ROUNDS],
     plans_between_ticks: u64,
     plans_starting_above: u64,
     strict_loops: u64,
 }
 
+/// What was seen; where there are five places, for 1 to 5 rounds.
+#[derive(Default)]
+struct Tally {
+    tables: u64,
+    differ: u64,
+    /// Grids that are too large.
+    skipped: [u64; ROUNDS],
+    /// Grids with twice the parts.
+    finer: [u64; ROUNDS],
+    /// From log-in, and in mid-shift.
+    seen: [Seen; 2],
+    fewer_from_log_in: u64,
+    later_from_log_in: u64,
+}
+
+/// A table that is asked about in a variant: the count of its rounds, and of those without strict guards.
+struct Asked<'a> {
+    table: &'a Table,
+    bytes: &'a [u8],
+    start: Start,
+    count: Option<u64>,
+    weak_count: Option<u64>,
+}
+
+impl Asked<'_> {
+    fn new<'a>(table: &'a Table, bytes: &'a [u8], start: Start) -> Result<Asked<'a>, String> {
+        Ok(Asked {
+            table,
+            bytes,
+            start,
+            count: rounds(bytes, start)?,
+            weak_count: rounds(&table.weakened().bytes(), start)?,
+        })
+    }
+}
+
 impl Tally {
-    /// A table put to "rounds", and to "plan" for 1 to 5 rounds: the first difference.
+    /// A table put to "rounds", and to "demands" and "plan" for 1 to 5 rounds: the first difference.
     fn table(&mut self, table: &Table, bytes: &[u8]) -> Result<(), String> {
-        let count = rounds(bytes)?;
-        self.counts[count.map_or(6, |count| count.min(5) as usize)] += 1;
-        (1..=ROUNDS).try_for_each(|k| self.some_rounds(table, bytes, count, k))
+        let log_in = Asked::new(table, bytes, Start::LogIn)?;
+        let mid_shift = Asked::new(table, bytes, Start::MidShift)?;
+        for asked in [&log_in, &mid_shift] {
+            let place = asked.count.map_or(6, |count| count.min(5) as usize);
+            self.seen[asked.start as usize].counts[place] += 1;
+        }
+        let rank = |asked: &Asked| asked.count.unwrap_or(u64::MAX);
+        if rank(&log_in) > rank(&mid_shift) {
+            return Err(format!(
+                "rounds: {} from log-in, but {} in mid-shift",
+                in_words(log_in.count),
+                in_words(mid_shift.count)
+            ));
+        }
+        self.fewer_from_log_in += u64::from(log_in.count != mid_shift.count);
+        (1..=ROUNDS).try_for_each(|k| {
+            demands_agree(table, bytes, k)?;
+            self.some_rounds(&log_in, &mid_shift, k)
+        })
     }
 
-    /// The search for k rounds, and beside it the count and the plan, unless the grid would be too large.
-    fn some_rounds(
-        &mut self,
-        table: &Table,
-        bytes: &[u8],
-        count: Option<u64>,
-        k: usize,
-    ) -> Result<(), String> {
+    /// The search for k rounds, and beside it the counts and the plans, unless the grid would be too large.
+    fn some_rounds(&mut self, log_in: &Asked, mid_shift: &Asked, k: usize) -> Result<(), String> {
+        let table = log_in.table;
         let parts = table.parts(k);
         let Some(mut grid) = Grid::new(table, k, parts) else {
             self.skipped[k - 1] += 1;
             return Ok(());
         };
-        let possible = grid.has_run();
-        let earliest = grid.earliest();
-        if earliest.last().is_some_and(|&time| time < NEVER) != possible {
-            return Err(format!(
-                "search for {k} rounds: a run backward {possible}, forward the moments {earliest:?}"
-            ));
-        }
-        if possible != count.map_or(true, |count| k as u64 <= count) {
-            let answered = count.map_or("without end".into(), |count| count.to_string());
-            let found = if possible { "a run" } else { "no run" };
-            return Err(format!(
-                "rounds: {answered}, but the search finds {found} of {k} rounds"
-            ));
-        }
+        grid.complete();
         if let Some(mut finer) = Grid::new(table, k, 2 * parts) {
             self.finer[k - 1] += 1;
-            if finer.has_run() != possible {
-                return Err(format!(
-                    "search for {k} rounds: a run with {parts} parts {possible}, with twice as many {}",
-                    !possible
-                ));
+            finer.complete();
+            for start in STARTS {
+                let possible = grid.has_run(start);
+                if finer.has_run(start) != possible {
+                    return Err(format!(
+                        "search {} for {k} rounds: a run with {parts} parts {possible}, with twice as many {}",
+                        start.name(),
+                        !possible
+                    ));
+                }
             }
         }
-        self.plan(table, bytes, k, possible.then_some(&earliest))
-            .map_err(|what| format!("plan for {k} rounds: {what}"))
+        let early = self.one_variant(mid_shift, &mut grid, k)?;
+        let late = self.one_variant(log_in, &mut grid, k)?;
+        let Some((early, late)) = early.zip(late) else {
+            return Ok(());
+        };
+        self.later_from_log_in += u64::from(early != late);
+        if early.iter().zip(&late).any(|(early, late)| early > late) {
+            return Err(format!(
+                "plan for {k} rounds: {late:?} from log-in, but {early:?} in mid-shift"
+            ));
+        }
+        Ok(())
+    }
+
+    /// The count and the plan for k rounds in a variant, beside the search; the moments, if it found a run.
+    fn one_variant(
+        &mut self,
+        asked: &Asked,
+        grid: &mut Grid,
+        k: usize,
+    ) -> Result<Option<Vec<u64>>, String> {
+        let name = asked.start.name();
+        let possible = grid.has_run(asked.start);
+        let earliest = grid.earliest(asked.start);
+        if earliest.last().is_some_and(|&time| time < NEVER) != possible {
+            return Err(format!(
+                "search {name} for {k} rounds: a run backward {possible}, forward the moments {earliest:?}"
+            ));
+        }
+        if possible != allows(asked.count, k) {
+            let found = if possible { "a run" } else { "no run" };
+            return Err(format!(
+                "rounds {name}: {}, but the search finds {found} of {k} rounds",
+                in_words(asked.count)
+            ));
+        }
+        let earliest = possible.then_some(earliest);
+        self.plan(asked, k, earliest.as_deref())
+            .map_err(|what| format!("plan {name} for {k} rounds: {what}"))?;
+        Ok(earliest)
     }
 
     /// The question "plan" on k rounds, beside the earliest moments by the search, if it found a run.
-    fn plan(
-        &mut self,
-        table: &Table,
-        bytes: &[u8],
-        k: usize,
-        earliest: Option<&Vec<u64>>,
-    ) -> Result<(), String> {
+    fn plan(&mut self, asked: &Asked, k: usize, earliest: Option<&[u64]>) -> Result<(), String> {
         let mut times = [KEPT; MOMENTS + 2];
         let mut starts = [KEPT; CLOCKS + 2];
         let mut room = [KEPT; MOMENTS + CLOCKS + 3];
         let mut answer = [KEPT; 4];
-        let told = judge::plan(
-            bytes,
+        let plan = match asked.start {
+            Start::LogIn => judge::plan,
+            Start::MidShift => judge::plan_mid_shift,
+        };
+        let told = plan(
+            asked.bytes,
             k as u64,
             &mut times,
             &mut starts,
@@ -578,7 +758,7 @@ impl Tally {
                 if !kept(&room, 0) {
                     return Err(format!("a plan, but the loop's room became {room:?}"));
                 }
-                self.plan_found(table, k, parts, &times, &starts, earliest)
+                self.plan_found(asked, k, parts, &times, &starts, earliest)
             }
             (true, [0, 1, length, 0], None) => {
                 if !kept(&times, 0) || !kept(&starts, 0) {
@@ -586,7 +766,7 @@ impl Tally {
                         "a loop, but times and starts became {times:?}, {starts:?}"
                     ));
                 }
-                self.loop_found(table, k, length as usize, &room)
+                self.loop_found(asked, k, length as usize, &room)
             }
             (true, [0, 0, _, 0], None) => Err("a plan, but the search finds no run".into()),
             (true, [0, 1, _, 0], Some(_)) => Err("a loop, but the search finds a run".into()),
@@ -596,30 +776,33 @@ impl Tally {
 
     fn plan_found(
         &mut self,
-        table: &Table,
+        asked: &Asked,
         k: usize,
         parts: u64,
         times: &[u64],
         starts: &[u64],
         earliest: &[u64],
     ) -> Result<(), String> {
+        let table = asked.table;
         if parts != table.parts(k) {
             return Err(format!("{parts} parts to a tick, not {}", table.parts(k)));
         }
         let moments = &times[..table.moments(k)];
-        self.plans[k - 1] += 1;
-        self.plans_between_ticks += u64::from(moments.iter().any(|time| time % parts != 0));
-        self.plans_starting_above += u64::from(starts[0] != 0);
+        let seen = &mut self.seen[asked.start as usize];
+        seen.plans[k - 1] += 1;
+        seen.plans_between_ticks += u64::from(moments.iter().any(|time| time % parts != 0));
+        seen.plans_starting_above += u64::from(starts[0] != 0);
         if moments != earliest {
             return Err(format!(
                 "moments {moments:?}, but by the search {earliest:?}"
             ));
         }
         let readings = from_fn(|clock| starts[clock]);
-        let plan = format!(
-            "moments {moments:?} from starts {:?}",
-            &starts[..table.clocks]
-        );
+        let starting = &starts[..table.clocks];
+        let plan = format!("moments {moments:?} from starts {starting:?}");
+        if asked.start == Start::LogIn && starting.iter().any(|&reading| reading != 0) {
+            return Err(format!("{plan}, which are not 0"));
+        }
         if !table.runs(parts, moments, readings) {
             return Err(format!("{plan} are no run"));
         }
@@ -634,7 +817,7 @@ impl Tally {
 
     fn loop_found(
         &mut self,
-        table: &Table,
+        asked: &Asked,
         k: usize,
         length: usize,
         room: &[u64],
@@ -642,10 +825,20 @@ impl Tally {
         let Some(vertices) = room.get(..length) else {
             return Err(format!("a loop of {length} moments is too long"));
         };
-        self.loops[k - 1] += 1;
-        match table.loop_of(table.moments(k), vertices) {
+        let table = asked.table;
+        // Where there is a run without strict guards, no sum is below 0.
+        let strict = allows(asked.weak_count, k);
+        let seen = &mut self.seen[asked.start as usize];
+        seen.loops[k - 1] += 1;
+        seen.strict_loops += u64::from(strict);
+        match table.loop_of(asked.start, table.moments(k), vertices) {
             None => return Err(format!("{vertices:?} is no loop")),
-            Some(what) => self.strict_loops += u64::from(what == Loop::Strict),
+            Some(Loop::Below) if strict => {
+                return Err(format!(
+                    "{vertices:?} has a sum below 0, but weak guards would have a run"
+                ))
+            }
+            _ => {}
         }
         if !kept(room, length) {
             return Err(format!("places past a loop of {length} became {room:?}"));
@@ -668,33 +861,43 @@ impl Tally {
     }
 
     fn print(&self) {
-        println!("tables {}", self.tables);
-        for (rounds, tables) in self.counts[..5].iter().enumerate() {
-            println!("rounds {rounds}: {tables}");
-        }
-        println!("more, but finite: {}", self.counts[5]);
-        println!("without end: {}", self.counts[6]);
-        let by_rounds = [
-            ("plans", self.plans),
-            ("loops", self.loops),
-            ("skipped", self.skipped),
-            ("finer grids", self.finer),
-        ];
-        for (name, numbers) in by_rounds {
+        let by_rounds = |name: &str, numbers: [u64; ROUNDS]| {
             let numbers = numbers.map(|n| n.to_string()).join(" ");
             println!("{name} for 1 to {ROUNDS} rounds: {numbers}");
+        };
+        println!("tables {}", self.tables);
+        by_rounds("skipped", self.skipped);
+        by_rounds("finer grids", self.finer);
+        for start in STARTS {
+            let seen = &self.seen[start as usize];
+            println!("{}:", start.name());
+            for (rounds, tables) in seen.counts[..5].iter().enumerate() {
+                println!("  rounds {rounds}: {tables}");
+            }
+            println!("  more, but finite: {}", seen.counts[5]);
+            println!("  without end: {}", seen.counts[6]);
+            by_rounds("  plans", seen.plans);
+            by_rounds("  loops", seen.loops);
+            println!(
+                "  plans with a moment between ticks: {}",
+                seen.plans_between_ticks
+            );
+            println!(
+                "  plans that start clock 1 above 0: {}",
+                seen.plans_starting_above
+            );
+            println!(
+                "  loops where weak guards would have a run: {}",
+                seen.strict_loops
+            );
         }
         println!(
-            "plans with a moment between ticks: {}",
-            self.plans_between_ticks
+            "tables with fewer rounds from log-in: {}",
+            self.fewer_from_log_in
         );
         println!(
-            "plans that start clock 1 above 0: {}",
-            self.plans_starting_above
-        );
-        println!(
-            "loops of sum 0, a strict one among them: {}",
-            self.strict_loops
+            "plans that are later from log-in: {}",
+            self.later_from_log_in
         );
         println!("tables that differ: {}", self.differ);
     }

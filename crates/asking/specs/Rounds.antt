@@ -11,7 +11,8 @@ use Rattle.format.specs.Accepted.{accepted-written}
 use Rattle.format.specs.Fair.{legal-clocks}
 use Rattle.runs.specs.Run.{copies}
 use Rattle.runs.specs.declared.Demand.{Demand}
-use Rattle.runs.specs.Demand.{anyStarts, demands, Exists, Clocks}
+use Rattle.runs.specs.declared.Start.{Start}
+use Rattle.runs.specs.Demand.{startsOf, demands, Exists, Clocks}
 use Rattle.runs.specs.Copies.{clocks-copies}
 
 -- the clocks and the steps that bytes write down
@@ -25,13 +26,13 @@ cycleOf bytes = cycle (listing bytes)
 abbrev pub roundsIn : List ℕ → ℕ → List Step
 roundsIn bytes k = copies (cycleOf bytes) k
 
--- their demands, in 01's demand order
-unfoldable pub demandsIn : List ℕ → ℕ → List Demand
-demandsIn bytes k = demands (clocksOf bytes) (roundsIn bytes k) anyStarts
+-- their demands for a variant of the start, in 01's demand order
+unfoldable pub demandsIn : List ℕ → Start → ℕ → List Demand
+demandsIn bytes v k = demands (clocksOf bytes) (roundsIn bytes k) (startsOf v)
 
--- a run of them exists, in some number of parts, from any start
-abbrev pub RunExists : List ℕ → ℕ → Type 0
-RunExists bytes k = Exists (clocksOf bytes) anyStarts (roundsIn bytes k)
+-- a run of them exists, in some number of parts, from a start that the variant allows
+abbrev pub RunExists : List ℕ → Start → ℕ → Type 0
+RunExists bytes v k = Exists (clocksOf bytes) (startsOf v) (roundsIn bytes k)
 
 -- The guards of k rounds of accepted bytes are on their clocks.
 pub guards-on : (bytes : List ℕ) → Bytes bytes → (k n L g : ℕ) → readOf bytes ≡ read.Counted n L g

@@ -1,7 +1,7 @@
 -- The demands of a guard, and of the starts, written one after the other.
 use mathlib.Core.Path.{_≡_, refl, sym, _∙_, ap}
 use mathlib.Core.Bool.{Bool, true, false, cond}
-use mathlib.Core.List.{List, [], _∷_, _++_}
+use mathlib.Core.List.{List, [], _∷_, _++_, map}
 use Prim.Native.Nat.{ℕ, suc, _+_, _-_, _≤_, _<_}
 use native.Mathlib.Numerals.{add-one}
 use native.Mathlib.Omega.{arith}
@@ -10,7 +10,7 @@ use Rattle.table.specs.declared.Guard.{Guard}
 use Rattle.table.specs.declared.Relation.{Relation}
 use Rattle.table.specs.declared.Relation.the-variants.{Under, AtMost, Exactly, AtLeast, Over}
 use Rattle.runs.specs.declared.Demand.{Demand}
-use Rattle.runs.specs.Demand.{plus, guardDemands, startDemands, anyStarts}
+use Rattle.runs.specs.Demand.{plus, guardDemands, Starts, moved, startDemands}
 use Rattle.runs.specs.DemandOrder.{startDemands-zero, startDemands-suc}
 use Rattle.constraints.specs.Pieces.{guardDemand, twiceOf}
 use Rattle.cells.specs.Writing.{Fits, Wrote, Left, left-all, fits-front, left-next, left-done, left-as}
@@ -63,17 +63,39 @@ module _ (g : Guard) (z i : ℕ) {old : List ℤ} {q : ℕ} (f : Fits old q (dem
       guard-twice v = left-done (left-next (b ∷ []) [] second-left v)
 
 -- ---- the starts of n clocks, of which those from clock j on are left
-abbrev pub startsLeft : ℕ → ℕ → ℕ → List Demand
-startsLeft K n j = startDemands K anyStarts j (n + 1 - j)
+module _ (K : ℕ) (D : Starts) (n : ℕ) where
+  abbrev pub startsLeft : ℕ → List Demand
+  startsLeft j = startDemands K D j (n + 1 - j)
 
-pub starts-all : (K n : ℕ) → startDemands K anyStarts 1 n ≡ startsLeft K n 1
-starts-all K n = let e : n ≡ n + 1 - 1 = omega arith in ap (startDemands K anyStarts 1) e
+  pub starts-all : startDemands K D 1 n ≡ startsLeft 1
+  starts-all = let e : n ≡ n + 1 - 1 = omega arith in ap (startDemands K D 1) e
 
-pub starts-more : (K n j : ℕ) → j ≤ n → startsLeft K n j ≡ (plus 0 (K + j) 0 false ∷ []) ++ startsLeft K n (j + 1)
-unfolding anyStarts
-starts-more K n j l =
-    let e : n + 1 - j ≡ suc (n + 1 - (j + 1)) = omega arith in
-    rw (e, add-one j) (startDemands-suc K anyStarts j (n + 1 - (suc j)))
+  pub starts-end : (j : ℕ) → n < j → startsLeft j ≡ []
+  starts-end j l = let e : n + 1 - j ≡ 0 = omega arith in ap (startDemands K D j) e ∙ startDemands-zero K D j
 
-pub starts-end : (K n j : ℕ) → n < j → startsLeft K n j ≡ []
-starts-end K n j l = let e : n + 1 - j ≡ 0 = omega arith in ap (startDemands K anyStarts j) e ∙ startDemands-zero K anyStarts j
+  -- ---- one clock: its start demand is written, and then its partners
+  abbrev partners : ℕ → List Demand
+  partners j = map (moved K) (D j)
+
+  one-clock : (j : ℕ) → j ≤ n → startsLeft j ≡ (plus 0 (K + j) 0 false ∷ []) ++ (partners j ++ startsLeft (j + 1))
+  one-clock j l =
+      let e : n + 1 - j ≡ suc (n + 1 - (j + 1)) = omega arith in
+      rw (e, add-one j) (startDemands-suc K D j (n + 1 - (suc j)))
+
+  module _ {old row : List ℤ} {q p j : ℕ} {ds : List Demand} (l : j ≤ n) (left : Left old q ds row p (startsLeft j)) where
+    clock-left : Left old q ds row p ((plus 0 (K + j) 0 false ∷ []) ++ (partners j ++ startsLeft (j + 1)))
+    clock-left = left-as (one-clock j l) left
+
+    pub start-fits : Fits row p (plus 0 (K + j) 0 false ∷ [])
+    start-fits = fits-front (plus 0 (K + j) 0 false ∷ []) (partners j ++ startsLeft (j + 1)) (clock-left .fits)
+
+    module _ {row′ : List ℤ} {p′ : ℕ} (w : Wrote row p (plus 0 (K + j) 0 false ∷ []) row′ p′) where
+      partners-left : Left old q ds row′ p′ (partners j ++ startsLeft (j + 1))
+      partners-left = left-next (plus 0 (K + j) 0 false ∷ []) (partners j ++ startsLeft (j + 1)) clock-left w
+
+      pub partners-fit : Fits row′ p′ (map (moved K) (D j))
+      partners-fit = fits-front (partners j) (startsLeft (j + 1)) (partners-left .fits)
+
+      pub starts-more : {row″ : List ℤ} {p″ : ℕ} → Wrote row′ p′ (map (moved K) (D j)) row″ p″
+          → Left old q ds row″ p″ (startsLeft (j + 1))
+      starts-more u = left-next (partners j) (startsLeft (j + 1)) partners-left u

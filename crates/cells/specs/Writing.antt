@@ -50,7 +50,11 @@ sets-over ds row h =
     let e : 0 + length (cells ds) ≡ length (cells ds) = omega arith in
     sets-eq (cells ds) row 0 (omega (arith, length-cells ds)) ∙ ap (λ n. cells ds ++ drop n row) e
 
--- ---- one demand
+-- ---- none, and one demand
+pub wrote-none : {row : List ℤ} {q : ℕ} → Wrote row q [] row q
+unfolding cells
+wrote-none = record { stands = refl; place = omega arith }
+
 pub wrote-one : {old row : List ℤ} {q p : ℕ} {d : Demand} → row ≡ sets old q (cellsOf d) → p ≡ q + 4
     → Wrote old q (d ∷ []) row p
 unfolding cells
@@ -59,11 +63,11 @@ wrote-one e f = record { stands = e; place = omega arith }
 pub wrote-long : {old row : List ℤ} {q p : ℕ} {ds : List Demand} → Wrote old q ds row p → length row ≡ length old
 wrote-long {old} {row} {q} {p} {ds} w = ap length (w .stands) ∙ length-sets old q (cells ds)
 
--- the same demand, by another name
-pub fits-as : {row : List ℤ} {q : ℕ} {d e : Demand} → d ≡ e → Fits row q (e ∷ []) → Fits row q (d ∷ [])
+-- the same demands, by another name
+pub fits-as : {row : List ℤ} {q : ℕ} {ds es : List Demand} → ds ≡ es → Fits row q es → Fits row q ds
 fits-as h f = rw h f
 
-pub wrote-as : {old row : List ℤ} {q p : ℕ} {d e : Demand} → d ≡ e → Wrote old q (d ∷ []) row p → Wrote old q (e ∷ []) row p
+pub wrote-as : {old row : List ℤ} {q p : ℕ} {ds es : List Demand} → ds ≡ es → Wrote old q ds row p → Wrote old q es row p
 wrote-as h w = rw (← h) w
 
 -- ---- at first all are left, in the end none

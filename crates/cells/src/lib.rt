@@ -1,13 +1,15 @@
 // Demands written to a row, four numbers to a demand: one, those of a guard, and those of the starts.
+use constraints::Partner;
 use runs::Demand;
+use runs::Start;
 use table::Guard;
 ghost use mathlib.Core.Path.{_≡_};
 ghost use mathlib.Core.Bool.{false};
-ghost use mathlib.Core.List.{[], _∷_};
-ghost use Prim.Native.Nat.{_≤_};
+ghost use mathlib.Core.List.{[], _∷_, map};
+ghost use Prim.Native.Nat.{_≤_, _<_};
 ghost use lib.IntN.{pos};
 ghost use lib.Seq.{sets};
-ghost use Rattle.runs.specs.Demand.{ticksOf, plus, guardDemands, startDemands, anyStarts};
+ghost use Rattle.runs.specs.Demand.{ticksOf, plus, guardDemands, moved, startsOf, startDemands};
 ghost use Rattle.cells.specs.Lines.{strictOf, cells, Small};
 ghost use Rattle.cells.specs.Writing.{Fits, Wrote};
 
@@ -75,15 +77,28 @@ pub fn put_not_after(row: &mut [i64], q: usize, from: usize, to: usize) -> usize
     put(row, q, demand)
 }
 
-// Writes the start demands of the clocks.
-pub fn put_starts(row: &mut [i64], q: usize, clocks: usize, total: usize)
-    requires { ⌜ (clocks ≤ 6) × (total ≤ 1024) × Fits (now row) q (startDemands total anyStarts 1 clocks) ⌝ }
-    ensures { λ _. ⌜ now (row .exit) ≡ sets (now (row .entry)) q (cells (startDemands total anyStarts 1 clocks)) ⌝ }
+// Writes the partner of the start demand of clock j, where the variant has one.
+fn put_partner(row: &mut [i64], q: usize, start: Start, total: usize, j: usize) -> usize
+    requires { ⌜ (total ≤ 1024) × (0 < j) × (j ≤ 6) × Fits (now row) q (map (moved total) (startsOf start j)) ⌝ }
+    ensures { λ r. ⌜ Wrote (now (row .entry)) q (map (moved total) (startsOf start j)) (now (row .exit)) r ⌝ }
+{
+    let partner = constraints::partner_of(start, total, j);
+    match partner {
+        Partner::One(d) => put(row, q, d),
+        Partner::None => q,
+    }
+}
+
+// Writes the start demands of the clocks, each followed by its partner.
+pub fn put_starts(row: &mut [i64], q: usize, start: Start, clocks: usize, total: usize)
+    requires { ⌜ (clocks ≤ 6) × (total ≤ 1024) × Fits (now row) q (startDemands total (startsOf start) 1 clocks) ⌝ }
+    ensures { λ _. ⌜ now (row .exit) ≡ sets (now (row .entry)) q (cells (startDemands total (startsOf start) 1 clocks)) ⌝ }
 {
     let mut p = q;
     let mut j: usize = 1;
     while j <= clocks {
         p = put_not_after(row, p, 0, total + j);
+        p = put_partner(row, p, start, total, j);
         j += 1;
     }
 }

@@ -9,20 +9,15 @@ use lib.ListN.{length}
 use Rattle.table.specs.Step.{Step, Fairs}
 use Rattle.runs.specs.Run.{copies}
 use Rattle.runs.specs.Copies.{copies-add, length-copies, fairs-copies}
-use Rattle.zones.specs.Matrix.{Matrix, Solves}
-use Rattle.zones.specs.Extend.{solve}
+use Rattle.zones.specs.Matrix.{Matrix}
 use Rattle.effects.specs.Describes.{Describes}
-use Rattle.effects.specs.Begins.{Begins, effect-begins}
+use Rattle.effects.specs.Begins.{Begins}
 use Rattle.effects.specs.Count.{limit}
 use Rattle.effects.specs.Known.{Known}
 use Rattle.effects.specs.Whole.{Side, whole}
 use Rattle.effects.specs.Tells.{Tells, Sized}
 use Rattle.effects.specs.Joining.{Joinable, Joins, effect-joinable, join-tells}
 use Rattle.gluing.specs.Laying.{effectAt}
-
--- D allows every start.
-abbrev pub Free : Matrix → Type 0
-Free D = (P : ℕ) (x : ℕ → ℕ) → 0 < P → Solves 7 P D x
 
 -- The steps of a table: fair, at least one and at most sixteen.
 pub record Tabled (τ : List Step) : Type 0 where
@@ -47,9 +42,14 @@ pub record Powers (w : ℕ) (τ : List Step) (n : ℕ) (m : List ℕ) : Type 0 w
   pub table : Tabled τ
   pub at : (j : ℕ) → j < n → Describes (copies τ (2 ^ j)) (whole w (effectAt m (j * 196)))
 
+-- The first i + 1 places are such effects, and 2 ^ i rounds run from the starts that D allows.
+pub record Reached (w : ℕ) (D : Matrix) (τ : List Step) (i : ℕ) (m : List ℕ) : Type 0 where
+  pub powers : Powers w τ (i + 1) m
+  pub runs : Begins D (copies τ (2 ^ i))
+
 -- ---- Rounds joined
 
-sized-rounds : {τ : List Step} → Tabled τ → (k : ℕ) → 0 < k → k ≤ limit → Sized (copies τ k)
+pub sized-rounds : {τ : List Step} → Tabled τ → (k : ℕ) → 0 < k → k ≤ limit → Sized (copies τ k)
 sized-rounds {τ} t k p h = record {
   fair = fairs-copies τ k (t .fair);
   some = omega (arith, length-copies τ k, mul-pos p (t .some));
@@ -71,12 +71,6 @@ module _ (w : ℕ) (side : Side w) {τ : List Step} {j k : ℕ} (A B : Matrix) (
       subst (λ (σ : List Step). Tells σ ok (whole w C)) (sym (copies-add τ j k))
       (join-tells w side (sized-rounds (a .table) j pj hj) (sized-rounds (a .table) k pk hk) A B C (a .describes)
       (b .describes) ok e)
-
--- Rounds that have an effect run from some start.
-pub rounds-begin : (D : Matrix) → Free D → {τ : List Step} {k : ℕ} {M : Matrix} → Rounds τ k M → Begins D (copies τ k)
-rounds-begin D free {M = M} h =
-    let (P, p, (x, s)) = solve 14 M (h .describes .closed) in
-    effect-begins D (h .describes) P x p s (free P x p)
 
 -- ---- The powers of two up to the limit
 

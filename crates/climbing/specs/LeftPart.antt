@@ -29,7 +29,7 @@ pub same-tight : {w at : ℕ} {m l : List ℕ} → Side w → SameLeft w w at m 
 same-tight {w} {at} {m} {l} side e a b ha hb =
     rw (whole-left w side (effectAt m at) (matrix l) (λ u v hu hv. ap bound (e .same u v hu hv)) a b ha hb) (⊑-refl _)
 
-clash : false ≡ true → ⊥
+pub clash : false ≡ true → ⊥
 clash q = let z : _≡_ {A = ℕ} 0 1 = cc in omega arith
 
 -- ---- Code by code

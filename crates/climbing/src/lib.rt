@@ -1,6 +1,8 @@
 // The count of rounds by doubling: effects of 1, 2, 4, .. rounds in the places of a lent row.
+use admitting::admits;
 use joins::join;
 use joins::keep;
+use runs::Start;
 ghost use mathlib.Core.Path.{_≡_};
 ghost use mathlib.Core.Bool.{true};
 ghost use mathlib.Core.List.{List};
@@ -8,13 +10,14 @@ ghost use mathlib.Core.Logic.{_↔_};
 ghost use Prim.Native.Nat.{_+_, _*_, _<_, _≤_, _^_};
 ghost use lib.ListN.{length};
 ghost use Rattle.table.specs.Step.{Step};
+ghost use Rattle.effects.specs.Starts.{startsFor};
 ghost use Rattle.effects.specs.Whole.{Side};
 ghost use Rattle.climbing.specs.LeftPart.{SameLine, SameLeft};
-ghost use Rattle.climbing.specs.Climbing.{Powers};
+ghost use Rattle.climbing.specs.Climbing.{Reached};
 ghost use Rattle.climbing.specs.Ways.{Climbs, Down};
 
 // Where doubling ended: the highest place and its number of rounds, twice which have no run; or place 24, where every number
-// has one.
+// has one. Runs are those from the starts that the variant allows.
 pub struct Top {
     pub place: usize,
     pub power: u64,
@@ -52,12 +55,12 @@ fn same_left(row: &[u64], out: &[u64], place: usize, side: usize) -> bool
     true
 }
 
-// From the effect of one round, at place 0, doubled as far as runs exist and the left part still changes: that of 2^i rounds
-// comes to place i. The left part tells from where the rounds run: once it stays, they run without end.
-pub fn up(row: &mut [u64], out: &mut [u64], side: usize) -> Top
-    requires { ⌜ (length (now row) ≡ 4900) × (length (now out) ≡ 441) × Side side
-        × ((τ : List Step) × Powers side τ 1 (now row)) ⌝ }
-    ensures { λ r. ⌜ Climbs side (now (row .entry)) (now (row .exit)) (r .place) (r .power) ⌝ }
+// From the effect of one round, at place 0, doubled as far as runs from an allowed start exist and the left part still changes: that
+// of 2^i rounds comes to place i. The left part tells from where the rounds run: once it stays, they run without end.
+pub fn up(row: &mut [u64], out: &mut [u64], left: &mut [u64], start: Start, side: usize) -> Top
+    requires { ⌜ (length (now row) ≡ 4900) × (length (now out) ≡ 441) × (length (now left) ≡ 441) × Side side
+        × ((τ : List Step) × Reached side (startsFor side start) τ 0 (now row)) ⌝ }
+    ensures { λ r. ⌜ Climbs side (startsFor side start) (now (row .entry)) (now (row .exit)) (r .place) (r .power) ⌝ }
 {
     let mut i: usize = 0;
     let mut power: u64 = 1;
@@ -76,6 +79,13 @@ pub fn up(row: &mut [u64], out: &mut [u64], side: usize) -> Top
                 power: power,
             };
         }
+        let admitted = admits(out, 0, 21, left, start, side);
+        if !admitted {
+            return Top {
+                place: i,
+                power: power,
+            };
+        }
         keep(row, out, i + 1, side);
         i += 1;
         power += power;
@@ -86,24 +96,30 @@ pub fn up(row: &mut [u64], out: &mut [u64], side: usize) -> Top
     }
 }
 
-// The rounds counted, whose effect is at a place, and those at place i too where both together run: their number, and their
-// effect at the place.
+// The rounds counted, whose effect is at a place, and those at place i too where both together run from an allowed start: their
+// number, and their effect at the place.
 fn add(
     row: &mut [u64],
     out: &mut [u64],
+    left: &mut [u64],
+    start: Start,
     place: usize,
     i: usize,
     count: u64,
     power: u64,
     side: usize,
 ) -> u64
-    requires { ⌜ (length (now row) ≡ 4900) × (length (now out) ≡ 441) × Side side × (i < place) × (place < 24) × (power ≡ 2 ^ i)
-        × ((τ : List Step) × Down side τ place (i + 1) count (now row)) ⌝ }
-    ensures { λ r. ⌜ ((τ : List Step) → Down side τ place (i + 1) count (now (row .entry))
-        → Down side τ place i r (now (row .exit))) ⌝ }
+    requires { ⌜ (length (now row) ≡ 4900) × (length (now out) ≡ 441) × (length (now left) ≡ 441) × Side side × (i < place)
+        × (place < 24) × (power ≡ 2 ^ i) × ((τ : List Step) × Down side (startsFor side start) τ place (i + 1) count (now row)) ⌝ }
+    ensures { λ r. ⌜ ((τ : List Step) → Down side (startsFor side start) τ place (i + 1) count (now (row .entry))
+        → Down side (startsFor side start) τ place i r (now (row .exit))) ⌝ }
 {
     let more = join(out, row, place, i, side);
     if !more {
+        return count;
+    }
+    let allowed = admits(out, 0, 21, left, start, side);
+    if !allowed {
         return count;
     }
     keep(row, out, place, side);
@@ -111,11 +127,19 @@ fn add(
 }
 
 // From the highest place down: the smaller powers of two added where the sum still runs. The count.
-pub fn down(row: &mut [u64], out: &mut [u64], place: usize, power: u64, side: usize) -> u64
-    requires { ⌜ (length (now row) ≡ 4900) × (length (now out) ≡ 441) × Side side × (place < 24) × (power ≡ 2 ^ place)
-        × ((τ : List Step) × Down side τ place place power (now row)) ⌝ }
-    ensures { λ r. ⌜ ((τ : List Step) → Down side τ place place power (now (row .entry))
-        → Down side τ place 0 r (now (row .exit))) ⌝ }
+pub fn down(
+    row: &mut [u64],
+    out: &mut [u64],
+    left: &mut [u64],
+    start: Start,
+    place: usize,
+    power: u64,
+    side: usize,
+) -> u64
+    requires { ⌜ (length (now row) ≡ 4900) × (length (now out) ≡ 441) × (length (now left) ≡ 441) × Side side × (place < 24)
+        × (power ≡ 2 ^ place) × ((τ : List Step) × Down side (startsFor side start) τ place place power (now row)) ⌝ }
+    ensures { λ r. ⌜ ((τ : List Step) → Down side (startsFor side start) τ place place power (now (row .entry))
+        → Down side (startsFor side start) τ place 0 r (now (row .exit))) ⌝ }
 {
     let mut count = power;
     let mut half = power;
@@ -123,7 +147,7 @@ pub fn down(row: &mut [u64], out: &mut [u64], place: usize, power: u64, side: us
     while 0 < i {
         i -= 1;
         half = half / 2;
-        count = add(row, out, place, i, count, half, side);
+        count = add(row, out, left, start, place, i, count, half, side);
     }
     count
 }

@@ -3,6 +3,7 @@ use mathlib.Core.Path.{_≡_, refl, ap}
 use mathlib.Core.List.{List, [], _∷_, List·Memᴰ·head, List·Memᴰ·tail}
 use Prim.Native.Nat.{ℕ, zero, suc, _+_, _*_, _≤_, _<_}
 use native.Mathlib.Omega.{arith}
+use native.Mathlib.Nat.{mul-le-mul-left}
 use lib.ListN.{length, getD, length-append}
 use lib.Seq.{length-slice}
 use Rattle.table.specs.Step.{Step, stepAt, stepsFrom, stepsOf, Good}
@@ -11,12 +12,14 @@ use Rattle.table.specs.declared.Relation.{Relation}
 use Rattle.table.specs.declared.Relation.the-variants.{Under, AtMost, Exactly, AtLeast, Over}
 use Rattle.table.specs.declared.Table.{Table}
 use Rattle.runs.specs.Run.{copies, zeroed}
-use Rattle.runs.specs.Demand.{guardDemands, guardsDemands, stepsDemands, startDemands, anyStarts}
+use Rattle.runs.specs.declared.Start.{Start}
+use Rattle.runs.specs.Demand.{guardDemands, guardsDemands, stepsDemands, startDemands, startsOf}
 use Rattle.runs.specs.DemandOrder.{demands-is}
 use Rattle.runs.specs.Copies.{copies-member}
 use Rattle.runs.specs.Tools.{Every, every-nil, every-cons}
 use Rattle.constraints.specs.Demands.{demandsOf}
 use Rattle.constraints.specs.Rounds.{length-rounds}
+use Rattle.constraints.specs.Partner.{partnersOf, partners-few, starts-number}
 
 -- ---- a guard has at most two
 guard-few : (r : Relation) (c z i : ℕ) → length (guardDemands r c z i) ≤ 2
@@ -76,27 +79,23 @@ table-few t i (suc n) good b =
       table-few t (suc i) n good (omega arith),
     )
 
--- ---- a clock has one
-pub starts-few : (K j n : ℕ) → length (startDemands K anyStarts j n) ≡ n
-unfolding startDemands anyStarts
-starts-few K j zero = refl
-starts-few K j (suc n) = ap suc (starts-few K (suc j) n)
-
--- There are at most 129 for each step, and one for each clock.
-pub demands-few : (t : Table) (k : ℕ) → Good t → length (demandsOf t k) ≤ 129 * (k * t .steps) + t .clocks
+-- There are at most 129 for each step, and two for each clock.
+pub demands-few : (t : Table) (v : Start) (k : ℕ) → Good t → length (demandsOf t v k) ≤ 129 * (k * t .steps) + t .clocks * 2
 unfolding stepsOf
-demands-few t k good =
+demands-few t v k good =
     let σ = copies (stepsOf t) k in
     let few : Every Few σ = λ s m. table-few t 0 (t .steps) good (omega arith) s (copies-member (stepsOf t) k m) in
     omega (
       arith,
-      ap length (demands-is (t .clocks) σ anyStarts),
+      ap length (demands-is (t .clocks) σ (startsOf v)),
       length-rounds t k,
-      length-append (stepsDemands σ 0 (λ j. length σ + j)) (startDemands (length σ) anyStarts 1 (t .clocks)),
+      length-append (stepsDemands σ 0 (λ j. length σ + j)) (startDemands (length σ) (startsOf v) 1 (t .clocks)),
       steps-few σ 0 (λ j. length σ + j) few,
-      starts-few (length σ) 1 (t .clocks),
+      starts-number v (length σ) 1 (t .clocks),
+      mul-le-mul-left (t .clocks) (partners-few v),
     )
 
--- So in 1024 steps at most 132102.
-pub demands-bounded : (t : Table) (k : ℕ) → Good t → k * t .steps ≤ 1024 → length (demandsOf t k) ≤ 1024 * 129 + 6
-demands-bounded t k good few = omega (arith, demands-few t k good, good .clocks-few)
+-- So in 1024 steps at most 132108.
+pub demands-bounded : (t : Table) (v : Start) (k : ℕ) → Good t → k * t .steps ≤ 1024
+    → length (demandsOf t v k) ≤ 1024 * 129 + 12
+demands-bounded t v k good few = omega (arith, demands-few t v k good, good .clocks-few)

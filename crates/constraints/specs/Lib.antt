@@ -3,6 +3,7 @@ pub mod Rounds
 pub mod Demands
 pub mod Guards
 pub mod Resets
+pub mod Partner
 pub mod Count
 pub mod Number
 pub mod Sized

@@ -12,11 +12,12 @@ use Rattle.table.specs.declared.Relation.{Relation}
 use Rattle.table.specs.declared.Relation.the-variants.{Under, AtMost, Exactly, AtLeast, Over}
 use Rattle.table.specs.declared.Table.{Table}
 use Rattle.runs.specs.Run.{copies, zeroed}
-use Rattle.runs.specs.Demand.{guardDemands, guardsDemands, stepsDemands, startDemands, anyStarts}
+use Rattle.runs.specs.declared.Start.{Start}
+use Rattle.runs.specs.Demand.{guardDemands, guardsDemands, stepsDemands, startDemands, startsOf}
 use Rattle.runs.specs.DemandOrder.{demands-is}
 use Rattle.constraints.specs.Pieces.{twiceOf}
 use Rattle.constraints.specs.Demands.{demandsOf}
-use Rattle.constraints.specs.Count.{starts-few}
+use Rattle.constraints.specs.Partner.{partnersOf, starts-number}
 
 -- ---- of a guard, and of guards: they do not depend on the moment, nor on the last resets
 abbrev pub guardNumber : Relation → ℕ
@@ -119,11 +120,11 @@ module _ (t : Table) (good : Good t) where
         guards-append (slice (end i) (end (i + 1)) (t .guards)) (slice (end (i + 1)) (end (i + 1 + n)) (t .guards)),
       ))
 
-  -- k times one for each step and those of all guards, and one for each clock
-  pub demands-number : (k : ℕ) → length (demandsOf t k)
-      ≡ k * (t .steps + guardsNumber (slice (end 0) (end (t .steps)) (t .guards))) + t .clocks
+  -- k times one for each step and those of all guards; and for each clock one and its partners
+  pub demands-number : (v : Start) (k : ℕ) → length (demandsOf t v k)
+      ≡ k * (t .steps + guardsNumber (slice (end 0) (end (t .steps)) (t .guards))) + t .clocks * (1 + partnersOf v)
   unfolding stepsOf
-  demands-number k =
+  demands-number v k =
       let σ = copies (stepsOf t) k in
       let e : 0 + t .steps ≡ t .steps = omega arith in
       let one : stepsNumber (stepsFrom t 0 (t .steps))
@@ -131,10 +132,10 @@ module _ (t : Table) (good : Good t) where
       table-number 0 (t .steps) (omega arith) ∙ ap (λ n. t .steps + guardsNumber (slice (end 0) (end n) (t .guards))) e in
       omega (
         arith,
-        ap length (demands-is (t .clocks) σ anyStarts),
-        length-append (stepsDemands σ 0 (λ j. length σ + j)) (startDemands (length σ) anyStarts 1 (t .clocks)),
+        ap length (demands-is (t .clocks) σ (startsOf v)),
+        length-append (stepsDemands σ 0 (λ j. length σ + j)) (startDemands (length σ) (startsOf v) 1 (t .clocks)),
         steps-number σ 0 (λ j. length σ + j),
         rounds-number (stepsOf t) k,
         ap (λ n. k * n) one,
-        starts-few (length σ) 1 (t .clocks),
+        starts-number v (length σ) 1 (t .clocks),
       )

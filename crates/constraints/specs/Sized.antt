@@ -8,7 +8,8 @@ use Rattle.table.specs.Step.{Step, stepsOf, Good}
 use Rattle.table.specs.declared.Table.{Table}
 use Rattle.runs.specs.Run.{copies}
 use Rattle.runs.specs.declared.Demand.{Demand}
-use Rattle.runs.specs.Demand.{stepsDemands, startDemands, anyStarts, Clocks}
+use Rattle.runs.specs.declared.Start.{Start}
+use Rattle.runs.specs.Demand.{stepsDemands, startDemands, startsOf, Clocks}
 use Rattle.runs.specs.DemandOrder.{demands-is}
 use Rattle.runs.specs.DemandRange.{Proper}
 use Rattle.runs.specs.Tools.{Every}
@@ -39,17 +40,17 @@ partsOf t k = k * t .steps + t .clocks + 1
 abbrev pub stepsPart : Table → ℕ → List Demand
 stepsPart t k = stepsDemands (roundsOf t k) 0 (λ j. length (roundsOf t k) + j)
 
-abbrev pub startsPart : Table → ℕ → List Demand
-startsPart t k = startDemands (k * t .steps) anyStarts 1 (t .clocks)
+abbrev pub startsPart : Table → Start → ℕ → List Demand
+startsPart t v k = startDemands (k * t .steps) (startsOf v) 1 (t .clocks)
 
-pub parts-are : (t : Table) (k : ℕ) → demandsOf t k ≡ stepsPart t k ++ startsPart t k
-parts-are t k =
-    demands-is (t .clocks) (roundsOf t k) anyStarts
-    ∙ ap (λ n. stepsPart t k ++ startDemands n anyStarts 1 (t .clocks)) (length-rounds t k)
+pub parts-are : (t : Table) (v : Start) (k : ℕ) → demandsOf t v k ≡ stepsPart t k ++ startsPart t v k
+parts-are t v k =
+    demands-is (t .clocks) (roundsOf t k) (startsOf v)
+    ∙ ap (λ n. stepsPart t k ++ startDemands n (startsOf v) 1 (t .clocks)) (length-rounds t k)
 
 module _ (t : Table) (k : ℕ) (z : Sized t k) where
   pub sized-parts : partsOf t k ≤ 1031
   sized-parts = omega (arith, z .few, z .good .clocks-few)
 
-  pub sized-proper : Every (Proper (k * t .steps + t .clocks)) (demandsOf t k)
-  sized-proper = all-proper t k (z .good) (z .clocks)
+  pub sized-proper : (v : Start) → Every (Proper (k * t .steps + t .clocks)) (demandsOf t v k)
+  sized-proper v = all-proper t v k (z .good) (z .clocks)

@@ -1,13 +1,16 @@
 // What the difference constraints (01: demands) of k rounds of a table are made of: the last resets, and the demands of a guard.
 use runs::Demand;
+use runs::Start;
 use table::Relation;
 ghost use mathlib.Core.Path.{_≡_};
 ghost use mathlib.Core.Bool.{false, cond};
+ghost use mathlib.Core.List.{map};
 ghost use Prim.Native.Nat.{_≤_, _<_};
 ghost use lib.ListN.{length};
-ghost use Rattle.runs.specs.Demand.{plus};
+ghost use Rattle.runs.specs.Demand.{plus, startsOf, moved};
 ghost use Rattle.runs.specs.Parts.{bit};
 ghost use Rattle.constraints.specs.Pieces.{fresh, resetOf, followingOf, guardDemand, twiceOf};
+ghost use Rattle.constraints.specs.Partner.{partnersOf, partnerList};
 
 // The last resets before the first of `total` steps: that of clock j is moment total + j. Place 0 is not used.
 pub fn fresh(total: usize) -> [usize; 7]
@@ -113,5 +116,32 @@ pub fn twice(relation: Relation) -> bool
         Relation::Exactly => true,
         Relation::AtLeast => false,
         Relation::Over => false,
+    }
+}
+
+// The demand that a variant of the start has for a clock, besides that its last reset is not after the start (N1: its partner).
+pub enum Partner {
+    One(Demand),
+    None,
+}
+
+// The partner for clock j, when there are `total` steps.
+pub fn partner_of(start: Start, total: usize, j: usize) -> Partner
+    requires { ⌜ (total ≤ 1024) × (0 < j) × (j ≤ 6) ⌝ }
+    ensures { λ r. ⌜ partnerList r ≡ map (moved total) (startsOf start j) ⌝ }
+{
+    match start {
+        Start::LogIn => Partner::One(not_after(total + j, 0)),
+        Start::MidShift => Partner::None,
+    }
+}
+
+// The number of partners for each clock.
+pub fn partners(start: Start) -> usize
+    ensures { λ r. ⌜ r ≡ partnersOf start ⌝ }
+{
+    match start {
+        Start::LogIn => 1,
+        Start::MidShift => 0,
     }
 }

@@ -7,6 +7,7 @@ use lib.ListN.{length, getD, set, take, drop, length-map}
 use lib.Seq.{drop-cons, set-at, take-suc, length-take-le, take-length}
 use lib.IntN.{ℤ, pos}
 use Rattle.runs.specs.declared.Demand.{Demand}
+use Rattle.runs.specs.declared.Start.{Start}
 use Rattle.asking.specs.Rounds.{demandsIn}
 use Rattle.cells.specs.Lines.{cellsOf, cells}
 use Rattle.demands.specs.declared.Listed.{Listed}
@@ -22,12 +23,13 @@ told-fits (written h) = h
 told-fits refused = omega arith
 
 -- what `fill` asks for
-pub fill-fits : (bytes : List ℕ) (k : ℕ) (row : List ℤ) (list : List Line) (r : Listed) (row′ : List ℤ) (m : ℕ)
-    → r ≡ listedOf bytes k (listRoom row list) → m ≡ countOf r → length row′ ≡ length row
+pub fill-fits : (bytes : List ℕ) (v : Start) (k : ℕ) (row : List ℤ) (list : List Line) (r : Listed) (row′ : List ℤ)
+    (m : ℕ)
+    → r ≡ listedOf bytes v k (listRoom row list) → m ≡ countOf r → length row′ ≡ length row
     → (m ≤ length list) × (m * 4 ≤ length row′)
-fill-fits bytes k row list r row′ m e n l =
+fill-fits bytes v k row list r row′ m e n l =
     let h : countOf r ≤ listRoom row list =
-    told-fits (subst (Told _ _) (sym e) (listed-told bytes k (listRoom row list))) in
+    told-fits (subst (Told _ _) (sym e) (listed-told bytes v k (listRoom row list))) in
     (omega arith, omega arith)
 
 -- ---- a row of cells holds the demands
@@ -80,10 +82,11 @@ told-is ds row list (written h) k =
 told-is ds row list refused k = refl
 
 -- what `fill` writes is what is to be written
-pub list-is : (bytes : List ℕ) (k : ℕ) (row : List ℤ) (list : List Line) (r : Listed) (row′ : List ℤ) (m : ℕ)
-    → r ≡ listedOf bytes k (listRoom row list) → row′ ≡ rowOf bytes k (listRoom row list) row → m ≡ countOf r
-    → filled row′ m list ≡ listOf bytes k (listRoom row list) list
+pub list-is : (bytes : List ℕ) (v : Start) (k : ℕ) (row : List ℤ) (list : List Line) (r : Listed) (row′ : List ℤ)
+    (m : ℕ)
+    → r ≡ listedOf bytes v k (listRoom row list) → row′ ≡ rowOf bytes v k (listRoom row list) row → m ≡ countOf r
+    → filled row′ m list ≡ listOf bytes v k (listRoom row list) list
 unfolding rowOf listOf
-list-is bytes k row list r row′ m e f n =
+list-is bytes v k row list r row′ m e f n =
     (λ i. filled (f i) ((n ∙ ap countOf e) i) list)
-    ∙ told-is (demandsIn bytes k) row list (listed-told bytes k (listRoom row list)) (omega arith)
+    ∙ told-is (demandsIn bytes v k) row list (listed-told bytes v k (listRoom row list)) (omega arith)

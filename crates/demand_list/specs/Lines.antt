@@ -4,6 +4,7 @@ use Prim.Native.Nat.{ℕ, min}
 use lib.IntN.{ℤ}
 use lib.ListN.{length}
 use Rattle.runs.specs.declared.Demand.{Demand}
+use Rattle.runs.specs.declared.Start.{Start}
 use Rattle.runs.specs.Demand.{ticksOf}
 use Rattle.asking.specs.Rounds.{demandsIn}
 use Rattle.cells.specs.Lines.{strictOf}
@@ -22,5 +23,5 @@ abbrev pub listRoom : List ℤ → List Line → ℕ
 listRoom row list = min (rowRoom row) (length list)
 
 -- the list at exit: the demands, and then the rest as it was
-unfoldable pub listOf : List ℕ → ℕ → ℕ → List Line → List Line
-listOf bytes k room list = unlessRefused (listedOf bytes k room) (lines (demandsIn bytes k)) list
+unfoldable pub listOf : List ℕ → Start → ℕ → ℕ → List Line → List Line
+listOf bytes v k room list = unlessRefused (listedOf bytes v k room) (lines (demandsIn bytes v k)) list

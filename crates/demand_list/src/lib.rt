@@ -1,5 +1,6 @@
 // The list entry of the question "demands for k": the demands, written to a lent row of numbers and to a lent list of records.
 use demands::Listed;
+use runs::Start;
 ghost use mathlib.Core.Path.{_≡_};
 ghost use Prim.Native.Nat.{_+_, _*_, _≤_, _<_};
 ghost use lib.ListN.{length};
@@ -68,15 +69,15 @@ fn count_of(listed: Listed) -> usize
 }
 
 // The list entry: the demands are written to the row, and to the list as records.
-pub fn demand_list(bytes: &[u8], k: u64, row: &mut [i64], list: &mut [Line]) -> Listed
-    ensures { λ r. ⌜ (r ≡ listedOf (now (bytes .entry)) k (listRoom (now (row .entry)) (now (list .entry))))
+pub fn demand_list(bytes: &[u8], start: Start, k: u64, row: &mut [i64], list: &mut [Line]) -> Listed
+    ensures { λ r. ⌜ (r ≡ listedOf (now (bytes .entry)) start k (listRoom (now (row .entry)) (now (list .entry))))
         × (now (row .exit)
-        ≡ rowOf (now (bytes .entry)) k (listRoom (now (row .entry)) (now (list .entry))) (now (row .entry)))
+        ≡ rowOf (now (bytes .entry)) start k (listRoom (now (row .entry)) (now (list .entry))) (now (row .entry)))
         × (now (list .exit)
-        ≡ listOf (now (bytes .entry)) k (listRoom (now (row .entry)) (now (list .entry))) (now (list .entry))) ⌝ }
+        ≡ listOf (now (bytes .entry)) start k (listRoom (now (row .entry)) (now (list .entry))) (now (list .entry))) ⌝ }
 {
     let limit = list.len();
-    let listed = demands::rows(bytes, k, &mut *row, limit);
+    let listed = demands::rows(bytes, start, k, &mut *row, limit);
     let count = count_of(listed);
     fill(&mut *list, &*row, count);
     listed

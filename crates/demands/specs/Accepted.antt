@@ -8,7 +8,8 @@ use Rattle.table.specs.declared.Read.the-variants.{Counted, Refused as Denied}
 use Rattle.table.specs.declared.Refusal.{Refusal}
 use Rattle.table.specs.declared.Table.{Table}
 use Rattle.runs.specs.Run.{copies}
-use Rattle.runs.specs.Demand.{demands, anyStarts, Clocks}
+use Rattle.runs.specs.declared.Start.{Start}
+use Rattle.runs.specs.Demand.{demands, startsOf, Clocks}
 use Rattle.constraints.specs.Demands.{demandsOf}
 use Rattle.wire.specs.Reading.{readOf}
 use Rattle.wire.specs.Listing.{listing, cycle}
@@ -46,29 +47,31 @@ module _ (bytes : List ℕ) (small : Bytes bytes) {n L g : ℕ} (e : readOf byte
       }
 
   -- it has the demands of the table that is written down
-  pub table-demands : (k : ℕ) → demandsOf t k ≡ demandsIn bytes k
+  pub table-demands : (v : Start) (k : ℕ) → demandsOf t v k ≡ demandsIn bytes v k
   unfolding demandsIn
-  table-demands k = λ i. demands (stands .clocks i) (copies (stands .same i) k) anyStarts
+  table-demands v k = λ i. demands (stands .clocks i) (copies (stands .same i) k) (startsOf v)
 
-  listed-counted : (k room : ℕ) → answerOf (t .steps) k (length (demandsOf t k)) room ≡ listedOf bytes k room
+  listed-counted : (v : Start) (k room : ℕ)
+      → answerOf (t .steps) k (length (demandsOf t v k)) room ≡ listedOf bytes v k room
   unfolding listedOf
-  listed-counted k room =
+  listed-counted v k room =
       let steps : t .steps ≡ L = stands .steps ∙ sym (wrote .steps) in
-      (λ i. answerOf (steps i) k (length (table-demands k i)) room) ∙ rw (listedOf, e)
+      (λ i. answerOf (steps i) k (length (table-demands v k i)) room) ∙ rw (listedOf, e)
 
   -- the answer and the row that are right for it are right
-  pub rows-counted : {r : Listed} (k room : ℕ) (row : List ℤ) {row′ : List ℤ}
-      → r ≡ answerOf (t .steps) k (length (demandsOf t k)) room → row′ ≡ unlessRefused r (cells (demandsOf t k)) row
-      → (r ≡ listedOf bytes k room) × (row′ ≡ rowOf bytes k room row)
+  pub rows-counted : {r : Listed} (v : Start) (k room : ℕ) (row : List ℤ) {row′ : List ℤ}
+      → r ≡ answerOf (t .steps) k (length (demandsOf t v k)) room → row′ ≡ unlessRefused r (cells (demandsOf t v k)) row
+      → (r ≡ listedOf bytes v k room) × (row′ ≡ rowOf bytes v k room row)
   unfolding rowOf
-  rows-counted k room row a b =
-      let right = a ∙ listed-counted k room in
-      (right, b ∙ (λ i. unlessRefused (right i) (cells (table-demands k i)) row))
+  rows-counted v k room row a b =
+      let right = a ∙ listed-counted v k room in
+      (right, b ∙ (λ i. unlessRefused (right i) (cells (table-demands v k i)) row))
 
 -- ---- refused bytes
-pub rows-refused : (bytes : List ℕ) (f : Refusal) (k room : ℕ) (row : List ℤ) → readOf bytes ≡ Denied f
-    → (Refused f ≡ listedOf bytes k room) × (row ≡ rowOf bytes k room row)
+pub rows-refused : (bytes : List ℕ) (f : Refusal) (v : Start) (k room : ℕ) (row : List ℤ)
+    → readOf bytes ≡ Denied f
+    → (Refused f ≡ listedOf bytes v k room) × (row ≡ rowOf bytes v k room row)
 unfolding rowOf listedOf
-rows-refused bytes f k room row e =
-    let same : Refused f ≡ listedOf bytes k room = rw (listedOf, e) in
-    (same, ap (λ r. unlessRefused r (cells (demandsIn bytes k)) row) same)
+rows-refused bytes f v k room row e =
+    let same : Refused f ≡ listedOf bytes v k room = rw (listedOf, e) in
+    (same, ap (λ r. unlessRefused r (cells (demandsIn bytes v k)) row) same)

@@ -8,6 +8,7 @@ use lib.ListN.{length}
 use Rattle.table.specs.declared.Fault.{Fault}
 use Rattle.table.specs.declared.Fault.the-variants as fault
 use Rattle.table.specs.declared.Read.the-variants.{Counted, Refused as Denied}
+use Rattle.runs.specs.declared.Start.{Start}
 use Rattle.wire.specs.Reading.{readOf}
 use Rattle.asking.specs.Admission.{inRange}
 use Rattle.asking.specs.Rounds.{demandsIn}
@@ -30,10 +31,10 @@ answerOf L k count room =
     (need (leb count room) fault.List
     (Written count))
 
--- the answer to the question "demands for k", where there is room for so many demands
-unfoldable pub listedOf : List ℕ → ℕ → ℕ → Listed
-listedOf bytes k room =
-    elim (readOf bytes) [ Counted n L g ↦ answerOf L k (length (demandsIn bytes k)) room | Denied f ↦ Refused f ]
+-- the answer to the question "demands for k" from the starts of a variant, where there is room for so many demands
+unfoldable pub listedOf : List ℕ → Start → ℕ → ℕ → Listed
+listedOf bytes v k room =
+    elim (readOf bytes) [ Counted n L g ↦ answerOf L k (length (demandsIn bytes v k)) room | Denied f ↦ Refused f ]
 
 -- for how many demands a row has room: it has four places to a demand
 abbrev pub rowRoom : List ℤ → ℕ
@@ -45,5 +46,5 @@ unlessRefused (Written n) new old = over new old
 unlessRefused (Refused f) new old = old
 
 -- the row at exit: the demands, and then the rest as it was
-unfoldable pub rowOf : List ℕ → ℕ → ℕ → List ℤ → List ℤ
-rowOf bytes k room row = unlessRefused (listedOf bytes k room) (cells (demandsIn bytes k)) row
+unfoldable pub rowOf : List ℕ → Start → ℕ → ℕ → List ℤ → List ℤ
+rowOf bytes v k room row = unlessRefused (listedOf bytes v k room) (cells (demandsIn bytes v k)) row

@@ -10,6 +10,7 @@ use Rattle.table.specs.declared.Fault.the-variants as fault
 use Rattle.table.specs.declared.Refusal.{Refusal}
 use Rattle.table.specs.declared.Read.{Read}
 use Rattle.table.specs.declared.Read.the-variants.{Counted, Refused as Denied}
+use Rattle.runs.specs.declared.Start.{Start}
 use Rattle.wire.specs.Reading.{readOf}
 use Rattle.asking.specs.Admission.{inRange}
 use Rattle.asking.specs.Rounds.{demandsIn}
@@ -33,12 +34,13 @@ answer-told L k count room = rounds (inRange k L)
     rounds true = fits (leb count room) refl
     rounds false = refused
 
-pub listed-told : (bytes : List ℕ) (k room : ℕ) → Told (length (demandsIn bytes k)) room (listedOf bytes k room)
+pub listed-told : (bytes : List ℕ) (v : Start) (k room : ℕ)
+    → Told (length (demandsIn bytes v k)) room (listedOf bytes v k room)
 unfolding listedOf
-listed-told bytes k room = go (readOf bytes)
+listed-told bytes v k room = go (readOf bytes)
   where
     go : (r : Read)
-        → Told (length (demandsIn bytes k)) room
-        (elim r [ Counted n L g ↦ answerOf L k (length (demandsIn bytes k)) room | Denied f ↦ Refused f ])
-    go (Counted n L g) = answer-told L k (length (demandsIn bytes k)) room
+        → Told (length (demandsIn bytes v k)) room
+        (elim r [ Counted n L g ↦ answerOf L k (length (demandsIn bytes v k)) room | Denied f ↦ Refused f ])
+    go (Counted n L g) = answer-told L k (length (demandsIn bytes v k)) room
     go (Denied f) = refused

@@ -1,4 +1,5 @@
 // The question "demands for k": the difference constraints (01: demands) of k rounds of a table, written to a lent row of numbers.
+use runs::Start;
 use table::Fault;
 use table::Read;
 use table::Refusal;
@@ -25,31 +26,31 @@ fn refused(fault: Fault) -> Listed
 }
 
 // The answer for an accepted table.
-fn answer(t: Table, k: u64, row: &mut [i64], limit: usize) -> Listed
+fn answer(t: Table, start: Start, k: u64, row: &mut [i64], limit: usize) -> Listed
     requires { ⌜ Sound t ⌝ }
-    ensures { λ r. ⌜ (r ≡ answerOf (t .steps) k (length (demandsOf t k)) (min (rowRoom (now (row .entry))) limit))
-        × (now (row .exit) ≡ unlessRefused r (cells (demandsOf t k)) (now (row .entry))) ⌝ }
+    ensures { λ r. ⌜ (r ≡ answerOf (t .steps) k (length (demandsOf t start k)) (min (rowRoom (now (row .entry))) limit))
+        × (now (row .exit) ≡ unlessRefused r (cells (demandsOf t start k)) (now (row .entry))) ⌝ }
 {
     if !asking::in_range(k, t.steps) {
         return refused(Fault::Rounds);
     }
     let rounds = k as usize;
-    let n = writing::count(t, rounds);
+    let n = writing::count(t, start, rounds);
     if row.len() / 4 < n {
         return refused(Fault::List);
     }
     if limit < n {
         return refused(Fault::List);
     }
-    writing::write(t, rounds, row);
+    writing::write(t, start, rounds, row);
     Listed::Written(n)
 }
 
 // The row entry's work, where there may be no more than `limit` demands.
-pub fn rows(bytes: &[u8], k: u64, row: &mut [i64], limit: usize) -> Listed
-    ensures { λ r. ⌜ (r ≡ listedOf (now (bytes .entry)) k (min (rowRoom (now (row .entry))) limit))
+pub fn rows(bytes: &[u8], start: Start, k: u64, row: &mut [i64], limit: usize) -> Listed
+    ensures { λ r. ⌜ (r ≡ listedOf (now (bytes .entry)) start k (min (rowRoom (now (row .entry))) limit))
         × (now (row .exit)
-        ≡ rowOf (now (bytes .entry)) k (min (rowRoom (now (row .entry))) limit) (now (row .entry))) ⌝ }
+        ≡ rowOf (now (bytes .entry)) start k (min (rowRoom (now (row .entry))) limit) (now (row .entry))) ⌝ }
 {
     let parsed = decode::parse(bytes);
     let read = parsed.answer;
@@ -60,15 +61,15 @@ pub fn rows(bytes: &[u8], k: u64, row: &mut [i64], limit: usize) -> Listed
             clocks: _,
             steps: _,
             guards: _,
-        } => answer(table, k, row, limit),
+        } => answer(table, start, k, row, limit),
     }
 }
 
 // The row entry: the demands are written to the row, in demand order, four numbers to a demand.
-pub fn demands(bytes: &[u8], k: u64, row: &mut [i64]) -> Listed
-    ensures { λ r. ⌜ (r ≡ listedOf (now (bytes .entry)) k (rowRoom (now (row .entry))))
-        × (now (row .exit) ≡ rowOf (now (bytes .entry)) k (rowRoom (now (row .entry))) (now (row .entry))) ⌝ }
+pub fn demands(bytes: &[u8], start: Start, k: u64, row: &mut [i64]) -> Listed
+    ensures { λ r. ⌜ (r ≡ listedOf (now (bytes .entry)) start k (rowRoom (now (row .entry))))
+        × (now (row .exit) ≡ rowOf (now (bytes .entry)) start k (rowRoom (now (row .entry))) (now (row .entry))) ⌝ }
 {
     let limit = row.len() / 4;
-    rows(bytes, k, row, limit)
+    rows(bytes, start, k, row, limit)
 }

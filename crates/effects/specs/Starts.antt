@@ -1,13 +1,15 @@
 -- The allowed starts as a matrix: a run exists exactly where one begins at a start that the matrix allows.
 use mathlib.Core.Logic.{_↔_, Iff·trans}
 use mathlib.Core.List.{List, []}
-use Prim.Native.Nat.{ℕ, zero, suc, _≤_, _<_}
+use Prim.Native.Nat.{ℕ, zero, suc, _-_, _≤_, _<_}
 use native.Mathlib.Omega.{arith}
 use lib.ListN.{length}
 use Rattle.table.specs.Step.{Step, Fairs}
 use Rattle.runs.specs.Run.{copies}
-use Rattle.runs.specs.Demand.{Holds, Starts, anyStarts, Exists, Places}
-use Rattle.runs.specs.Allowed.{any-allowed}
+use Rattle.runs.specs.declared.Start.{Start}
+use Rattle.runs.specs.Demand.{Holds, Starts, startsOf, Exists, Places}
+use Rattle.runs.specs.Start.{Upper}
+use Rattle.runs.specs.Satisfies.{Satisfies}
 use Rattle.runs.specs.Copies.{copies-zero, exists-none, length-copies, fairs-copies}
 use Rattle.runs.specs.ExistsSteps.{Walk, exists-walk}
 use Rattle.runs.specs.Steps.{Config, Old, steps-old}
@@ -21,21 +23,26 @@ pub record Permits (n : ℕ) (D : Starts) (M : Matrix) : Type 0 where
   pub is : (P : ℕ) (u : Config) → 0 < P → Old u
       → Solves 7 P M u ↔ ((j : ℕ) → 0 < j → j ≤ n → Every (Holds P u) (D j))
 
--- The matrix of these demands,
+-- The matrix of these demands.
 unfoldable pub startMatrix : ℕ → Starts → Matrix
 startMatrix n D = matrixOf (each n D)
 
--- which is solved so.
-pub permits : (n : ℕ) (D : Starts) → n < 7 → Places n D → Permits n D (startMatrix n D)
-unfolding startMatrix
-permits n D b places = record {
-  is = λ P u p old.
-      Iff·trans (matrix-is 7 P u p (each n D) inside) (every-each (Holds P u) D n);
-}
-  where
-    inside : Inside 7 (each n D)
-    inside = every-each (λ d. (d .from < 7) × (d .to < 7)) D n .1
-        (λ j p l d m. let h = places j p l d m in (omega (arith, h .0), omega (arith, h .1)))
+-- That of a variant, where a configuration has w vertices.
+abbrev pub startsFor : ℕ → Start → Matrix
+startsFor w v = startMatrix (w - 1) (startsOf v)
+
+module _ (n : ℕ) (D : Starts) (b : n < 7) (places : Places n D) where
+  -- It is solved by the configurations that satisfy them.
+  pub start-is : (P : ℕ) (u : Config) → 0 < P → Solves 7 P (startMatrix n D) u ↔ Satisfies P u (each n D)
+  unfolding startMatrix
+  start-is P u p = matrix-is 7 P u p (each n D) inside
+    where
+      inside : Inside 7 (each n D)
+      inside = every-each (λ d. (d .from < 7) × (d .to < 7)) D n .1
+          (λ j p l d m. let h = places j p l d m in (omega (arith, h .0), omega (arith, h .1)))
+
+  pub permits : Permits n D (startMatrix n D)
+  permits = record { is = λ P u p old. Iff·trans (start-is P u p) (every-each (Holds P u) D n) }
 
 module _ (n : ℕ) (D : Starts) (M : Matrix) (b : n < 7) (places : Places n D) (permits : Permits n D M) where
   -- Where a run exists, one begins at a configuration that M allows,
@@ -77,7 +84,6 @@ module _ (n : ℕ) (D : Starts) (M : Matrix) (b : n < 7) (places : Places n D) (
       back (suc k) r =
           begins-exists (copies τ (suc k)) (fairs-copies τ (suc k) f) (omega (arith, length-copies τ (suc k))) r
 
--- Of 01's starts, with any readings, there is one.
-pub any-exists : (n : ℕ) → Exists n anyStarts []
-any-exists n =
-    rw (copies-zero []) at (exists-none n anyStarts [] 1 (λ j. 0) (omega arith) (any-allowed 1 n (λ j. 0)))
+-- There is one where readings of 0 are allowed.
+pub starts-exist : (n : ℕ) (D : Starts) → Upper n D → Exists n D []
+starts-exist n D u = rw (copies-zero []) at (exists-none n D [] 1 (λ j. 0) (omega arith) (u .zero 1))

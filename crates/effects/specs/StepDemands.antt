@@ -112,10 +112,10 @@ module _ (P : ℕ) (x : ℕ → ℕ) where
 
 -- ---- They are short
 
--- Between two of the first 2 * w vertices, and of at most 4000 ticks either way.
-pub record Short (w : ℕ) (d : Demand) : Type 0 where
-  pub from : d .from < w + w
-  pub to : d .to < w + w
+-- Between two of the first N vertices, and of at most 4000 ticks either way.
+pub record Short (N : ℕ) (d : Demand) : Type 0 where
+  pub from : d .from < N
+  pub to : d .to < N
   pub up : d .up ≤ 4000
   pub down : d .down ≤ 4000
 
@@ -125,17 +125,17 @@ pub record Uses (w : ℕ) (s : Step) : Type 0 where
   pub resets : (j : ℕ) → w ≤ j → j < 7 → resets s j ≡ false
 
 module _ (w : ℕ) where
-  one : {d : Demand} → Short w d → Every (Short w) (d ∷ [])
-  one h = every-cons (Short w) _ _ .1 (h, every-nil (Short w))
+  one : {d : Demand} → Short (w + w) d → Every (Short (w + w)) (d ∷ [])
+  one h = every-cons (Short (w + w)) _ _ .1 (h, every-nil (Short (w + w)))
 
-  two : {c d : Demand} → Short w c → Short w d → Every (Short w) (c ∷ d ∷ [])
-  two h k = every-cons (Short w) _ _ .1 (h, one k)
+  two : {c d : Demand} → Short (w + w) c → Short (w + w) d → Every (Short (w + w)) (c ∷ d ∷ [])
+  two h k = every-cons (Short (w + w)) _ _ .1 (h, one k)
 
-  reset-short : (b : Bool) (j : ℕ) → j < w → Every (Short w) (resetDemands w b j)
+  reset-short : (b : Bool) (j : ℕ) → j < w → Every (Short (w + w)) (resetDemands w b j)
   reset-short true j l = two (omega arith) (omega arith)
   reset-short false j l = two (omega arith) (omega arith)
 
-  guard-short : (r : Relation) (j c : ℕ) → j < w → c ≤ 4000 → Every (Short w) (guardDemands r c j w)
+  guard-short : (r : Relation) (j c : ℕ) → j < w → c ≤ 4000 → Every (Short (w + w)) (guardDemands r c j w)
   guard-short Under j c l h = one (omega arith)
   guard-short AtMost j c l h = one (omega arith)
   guard-short Exactly j c l h = two (omega arith) (omega arith)
@@ -143,26 +143,26 @@ module _ (w : ℕ) where
   guard-short Over j c l h = one (omega arith)
 
   guards-short : (gs : List Guard) → Every (λ g. (g .clock < w) × (g .constant ≤ 4000)) gs
-      → Every (Short w) (guardsDemands gs w (λ j. j))
+      → Every (Short (w + w)) (guardsDemands gs w (λ j. j))
   unfolding guardsDemands
-  guards-short [] h = every-nil (Short w)
+  guards-short [] h = every-nil (Short (w + w))
   guards-short (g ∷ gs) h =
       let k = every-cons (λ g. (g .clock < w) × (g .constant ≤ 4000)) g gs .0 h in
-      every-append (Short w) (guardDemands (g .relation) (g .constant) (g .clock) w) _ .1
+      every-append (Short (w + w)) (guardDemands (g .relation) (g .constant) (g .clock) w) _ .1
       (guard-short (g .relation) (g .clock) (g .constant) (k .0 .0) (k .0 .1), guards-short gs (k .1))
 
   pub step-short : 0 < w → (s : Step) → Fair s → ((g : Guard) → List·Memᴰ g (s .guards) → g .clock < w)
-      → Every (Short w) (stepDemands w s)
+      → Every (Short (w + w)) (stepDemands w s)
   unfolding stepDemands
   step-short p s f u =
-      every-cons (Short w) _ _ .1 (
+      every-cons (Short (w + w)) _ _ .1 (
         omega arith,
-        every-append (Short w) (each (w - 1) (clockDemands w s)) _ .1
-            (every-each (Short w) (clockDemands w s) (w - 1) .1 clocks, guards-short (s .guards) tests),
+        every-append (Short (w + w)) (each (w - 1) (clockDemands w s)) _ .1
+            (every-each (Short (w + w)) (clockDemands w s) (w - 1) .1 clocks, guards-short (s .guards) tests),
       )
     where
-      clocks : (j : ℕ) → 0 < j → j ≤ w - 1 → Every (Short w) (clockDemands w s j)
-      clocks j q l = every-cons (Short w) _ _ .1 (omega arith, reset-short (resets s j) j (omega arith))
+      clocks : (j : ℕ) → 0 < j → j ≤ w - 1 → Every (Short (w + w)) (clockDemands w s j)
+      clocks j q l = every-cons (Short (w + w)) _ _ .1 (omega arith, reset-short (resets s j) j (omega arith))
 
       tests : Every (λ g. (g .clock < w) × (g .constant ≤ 4000)) (s .guards)
       tests g i = (u g i, f .guards g i .small)

@@ -109,6 +109,11 @@ module _ (w : ℕ) (side : Side w) (M : Matrix) where
         n .f-g v hv,
       )
 
+  -- Among the vertices before, the two have the same entries.
+  pub whole-before : (u v : ℕ) → u < w → v < w → whole w M u v ≡ M u v
+  whole-before u v hu hv =
+      rw (back-left w side u hu, back-left w side v hv) at (whole-entry u v (omega arith) (omega arith))
+
   -- What holds of every entry of the effect holds of its own.
   pub whole-entries : (Q : Bound → Type 0) → ((a b : ℕ) → a < 14 → b < 14 → Q (whole w M a b))
       → (u v : ℕ) → u < w + w → v < w + w → Q (M u v)
@@ -149,22 +154,37 @@ whole-same w side A B e = describes-same entries
         go (no k) (no d) = fill-off w (place w) A a b k d ∙ sym (fill-off w (place w) B a b k d)
 
 -- Of the configuration before, only the entries among its w vertices.
-pub whole-left : (w : ℕ) (side : Side w) (A B : Matrix) → ((u v : ℕ) → u < w → v < w → A u v ≡ B u v)
-    → (a b : ℕ) → a < 7 → b < 7 → whole w A a b ≡ whole w B a b
-whole-left w side A B e a b ha hb = go (decLt (a % 7) w) (ℕ-discrete (a % 7) (b % 7))
-  where
-    at : (c d : ℕ) → Placed w c d → c < 7 → On w c → d < w
-    at c d (inl h) l k = omega arith
-    at c d (inr h) l k = omega arith
+module _ (w : ℕ) (side : Side w) where
+  -- To these a vertex before leads.
+  pub upper-before : (a : ℕ) → a < 7 → upper w (place w) a < w
+  upper-before a h = go (decLt (a % 7) w)
+    where
+      at : (b : ℕ) → Placed w a b → On w a → b < w
+      at b (inl p) k = omega arith
+      at b (inr p) k = omega arith
 
-    upper-left : Dec (On w b) → upper w (place w) b < w
-    upper-left (yes k) = rw (upper-on w (place w) b k) (at b (place w b) (placed w b) hb k)
-    upper-left (no k) = rw (upper-off w (place w) b k) (side .0)
+      go : Dec (On w a) → upper w (place w) a < w
+      go (yes k) = rw (upper-on w (place w) a k) (at (place w a) (placed w a) k)
+      go (no k) = rw (upper-off w (place w) a k) (side .0)
 
-    go : Dec (On w a) → Dec (a % 7 ≡ b % 7) → whole w A a b ≡ whole w B a b
-    go (yes k) d =
-        fill-on w (place w) A a b k
-        ∙ e (place w a) (upper w (place w) b) (at a (place w a) (placed w a) ha k) (upper-left (decLt (b % 7) w))
-        ∙ sym (fill-on w (place w) B a b k)
-    go (no k) (yes d) = fill-same w (place w) A a b k d ∙ sym (fill-same w (place w) B a b k d)
-    go (no k) (no d) = fill-off w (place w) A a b k d ∙ sym (fill-off w (place w) B a b k d)
+  -- From one of the w vertices it leads to itself.
+  pub upper-same : (a : ℕ) → a < w → upper w (place w) a ≡ a
+  upper-same a h = upper-on w (place w) a (omega arith) ∙ go (place w a) (placed w a)
+    where
+      go : (b : ℕ) → Placed w a b → b ≡ a
+      go b (inl k) = k .1
+      go b (inr k) = omega arith
+
+  pub whole-left : (A B : Matrix) → ((u v : ℕ) → u < w → v < w → A u v ≡ B u v)
+      → (a b : ℕ) → a < 7 → b < 7 → whole w A a b ≡ whole w B a b
+  whole-left A B e a b ha hb = go (decLt (a % 7) w) (ℕ-discrete (a % 7) (b % 7))
+    where
+      low : On w a → place w a < w
+      low k = rw (upper-on w (place w) a k) at (upper-before a ha)
+
+      go : Dec (On w a) → Dec (a % 7 ≡ b % 7) → whole w A a b ≡ whole w B a b
+      go (yes k) d =
+          fill-on w (place w) A a b k ∙ e (place w a) (upper w (place w) b) (low k) (upper-before b hb)
+          ∙ sym (fill-on w (place w) B a b k)
+      go (no k) (yes d) = fill-same w (place w) A a b k d ∙ sym (fill-same w (place w) B a b k d)
+      go (no k) (no d) = fill-off w (place w) A a b k d ∙ sym (fill-off w (place w) B a b k d)

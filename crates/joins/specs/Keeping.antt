@@ -5,22 +5,16 @@ use mathlib.Core.List.{List}
 use Prim.Native.Nat.{ℕ, _+_, _*_, _≤_, _<_}
 use native.Mathlib.Omega.{arith}
 use native.Mathlib.Decide.{decLt}
-use lib.ListN.{length, getD, set, length-set}
-use lib.Seq.{getD-set-same, getD-set-other}
+use lib.ListN.{length, getD}
 use borrow.Author.Count.{below-more}
 use Rattle.basics.specs.Choice.{not-below-zero}
 use Rattle.table.specs.Step.{Step}
 use Rattle.zones.specs.Codes.{bound}
 use Rattle.zones.specs.Cells.{cell, matrix}
+use Rattle.zones.specs.Lines.{LineTo}
 use Rattle.effects.specs.Describes.{Describes}
 use Rattle.effects.specs.Whole.{Side, whole, whole-same}
 use Rattle.gluing.specs.Laying.{code, effectAt}
-
--- z is m with n codes of l from index `from` on kept from index `to` on.
-pub record LineTo (to from n : ℕ) (l m z : List ℕ) : Type 0 where
-  pub full : length z ≡ 4900
-  pub done : (c : ℕ) → c < n → getD z (to + c) 0 ≡ getD l (from + c) 0
-  pub rest : (k : ℕ) → (k < to) ⊎ (to + n ≤ k) → getD z k 0 ≡ getD m k 0
 
 -- z is m with the first n lines of `size` cells of l kept from index `at` on.
 pub record LinesTo (size at n : ℕ) (l m z : List ℕ) : Type 0 where
@@ -28,22 +22,7 @@ pub record LinesTo (size at n : ℕ) (l m z : List ℕ) : Type 0 where
   pub done : (u v : ℕ) → u < n → v < size → code z at u v ≡ cell l u v
   pub rest : (k : ℕ) → (k < at) ⊎ (at + 196 ≤ k) → getD z k 0 ≡ getD m k 0
 
--- ---- Codes and lines one by one, as a loop takes them
-
-pub line-none : (to from : ℕ) (l m : List ℕ) → length m ≡ 4900 → LineTo to from 0 l m m
-line-none to from l m e = record { full = e; done = λ c h. absurd (not-below-zero c h); rest = λ k q. refl }
-
-pub line-more : (to from n : ℕ) (l m z : List ℕ) → to + n < 4900 → LineTo to from n l m z
-    → LineTo to from (n + 1) l m (set z (to + n) (getD l (from + n) 0))
-line-more to from n l m z h t = record {
-  full = length-set z _ _ ∙ t .full;
-  done = below-more (λ c. getD (set z (to + n) (getD l (from + n) 0)) (to + c) 0 ≡ getD l (from + c) 0) n
-      (λ c k. getD-set-other z (to + n) (to + c) (getD l (from + n) 0) 0 (omega arith) ∙ t .done c k)
-      (getD-set-same z (to + n) (getD l (from + n) 0) 0 (omega (arith, t .full)));
-  rest = λ k q.
-      getD-set-other z (to + n) k (getD l (from + n) 0) 0 (⊎-elim (λ e. omega arith) (λ e. omega arith) q)
-      ∙ t .rest k (⊎-elim inl (λ e. inr (omega arith)) q);
-}
+-- ---- Lines one by one, as a loop takes them
 
 pub lines-none : (size at : ℕ) (l m : List ℕ) → length m ≡ 4900 → LinesTo size at 0 l m m
 lines-none size at l m e = record { full = e; done = λ u v h. absurd (not-below-zero u h); rest = λ k q. refl }
@@ -51,7 +30,7 @@ lines-none size at l m e = record { full = e; done = λ u v h. absurd (not-below
 pub lines-more : (size at n : ℕ) (l m z y : List ℕ) → size ≤ 14 → n < size → LinesTo size at n l m z
     → LineTo (at + n * 14) (n * 21) size l z y → LinesTo size at (n + 1) l m y
 lines-more size at n l m z y s h t r = record {
-  full = r .full;
+  full = r .full ∙ t .full;
   done = λ u v hu hv. below-more (λ u. code y at u v ≡ cell l u v) n (λ u k. before u v k hv) (r .done v hv) u hu;
   rest = λ k q. r .rest k (⊎-elim (λ e. inl (omega arith)) (λ e. inr (omega arith)) q) ∙ t .rest k q;
 }

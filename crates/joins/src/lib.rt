@@ -3,6 +3,7 @@ use closing::close;
 use gluing::glue;
 use steps::step_effect;
 use table::Table;
+use zones::copy_line;
 ghost use mathlib.Core.Path.{_≡_};
 ghost use Prim.Native.Nat.{_+_, _*_, _<_, _≤_};
 ghost use lib.ListN.{length};
@@ -13,7 +14,7 @@ ghost use Rattle.effects.specs.Whole.{Side, whole};
 ghost use Rattle.effects.specs.Tells.{Tells};
 ghost use Rattle.effects.specs.Joining.{Joinable, Joins};
 ghost use Rattle.gluing.specs.Laying.{effectAt};
-ghost use Rattle.joins.specs.Keeping.{LineTo, LinesTo};
+ghost use Rattle.joins.specs.Keeping.{LinesTo};
 ghost use Rattle.joins.specs.Round.{UsesAll};
 
 // The effect at place a and then the one at place b, in the cells of `out`, or that both together have no run.
@@ -27,18 +28,6 @@ pub fn join(out: &mut [u64], row: &[u64], a: usize, b: usize, side: usize) -> bo
     close(out, side + side, side + side + side)
 }
 
-// Keeps `size` cells of `out` from index `from` on in the row, from index `to` on.
-fn keep_line(row: &mut [u64], out: &[u64], to: usize, from: usize, size: usize)
-    requires { ⌜ (length (now row) ≡ 4900) × (length (now out) ≡ 441) × (to + size ≤ 4900) × (from + size ≤ 441) ⌝ }
-    ensures { λ _. ⌜ LineTo to from size (now (out .entry)) (now (row .entry)) (now (row .exit)) ⌝ }
-{
-    let mut c: usize = 0;
-    while c < size {
-        row[to + c] = out[from + c];
-        c += 1;
-    }
-}
-
 // Keeps the bounds among the first 2 * side vertices of `out` at a place of the row.
 pub fn keep(row: &mut [u64], out: &[u64], place: usize, side: usize)
     requires { ⌜ (length (now row) ≡ 4900) × (length (now out) ≡ 441) × (place < 25) × (side ≤ 7) ⌝ }
@@ -47,7 +36,7 @@ pub fn keep(row: &mut [u64], out: &[u64], place: usize, side: usize)
     let size = side + side;
     let mut r: usize = 0;
     while r < size {
-        keep_line(row, out, place * 196 + r * 14, r * 21, size);
+        copy_line(row, out, place * 196 + r * 14, r * 21, size);
         r += 1;
     }
 }

@@ -7,8 +7,7 @@ use lib.ListN.{length, getD, drop}
 use Rattle.table.specs.Step.{Step}
 use Rattle.table.specs.declared.Refusal.{Refusal}
 use Rattle.runs.specs.Run.{Run}
-use Rattle.runs.specs.Demand.{anyStarts, Clocks}
-use Rattle.runs.specs.Allowed.{any-places}
+use Rattle.runs.specs.Demand.{Starts, Clocks, Places}
 use Rattle.runs.specs.Refutes.{loop-refutes}
 use Rattle.plan.specs.declared.Outcome.{Outcome}
 use Rattle.plan.specs.declared.Outcome.the-variants.{Found, Loop, Refused}
@@ -43,19 +42,24 @@ same-kept : (n : ℕ) (l a b : List ℕ) → plan.KeptFrom n l a → plan.KeptFr
     → a ≡ b
 same-kept n l a b p q f = same-list n a b (p .size ∙ sym (q .size)) f (p .rest ∙ sym (q .rest))
 
-module _ (n : ℕ) (σ : List Step) (r : plan.Rooms) where
+-- two refusals agree
+pub refused : (r : plan.Rooms) (f : Refusal) (x y : Outcome) (a b : plan.Rooms) → (x ≡ Refused f) × (a ≡ r) → (y ≡ Refused f) × (b ≡ r)
+    → Agree x a y b
+refused r f x y a b p q = subst (λ z. Agree z a y b) (sym (p .0)) (sym (q .0), p .1 ∙ sym (q .1))
+
+module _ (n : ℕ) (σ : List Step) (D : Starts) (on : Clocks n σ) (places : Places n D) (r : plan.Rooms) where
   -- two plans have the same moments, and then the same starts
-  no-later : (P : ℕ) (a b : plan.Rooms) → plan.Planning n σ r a P → plan.Planning n σ r b P → (i : ℕ) → i < length σ
+  no-later : (P : ℕ) (a b : plan.Rooms) → plan.Planning n σ D r a P → plan.Planning n σ D r b P → (i : ℕ) → i < length σ
       → getD (a .times) i 0 ≤ getD (b .times) i 0
   no-later P a b p q i h =
       p .planned .earliest (plan.momentsIn (b .times)) (plan.startsIn (b .starts)) (q .planned .run) (q .planned .allowed) (suc i) h
 
-  same-times : (P : ℕ) (a b : plan.Rooms) → plan.Planning n σ r a P → plan.Planning n σ r b P → a .times ≡ b .times
+  same-times : (P : ℕ) (a b : plan.Rooms) → plan.Planning n σ D r a P → plan.Planning n σ D r b P → a .times ≡ b .times
   same-times P a b p q =
       same-kept (length σ) (r .times) (a .times) (b .times) (p .times) (q .times)
       (λ i h. omega (arith, no-later P a b p q i h, no-later P b a q p i h))
 
-  no-larger : (P : ℕ) (a b : plan.Rooms) → plan.Planning n σ r a P → plan.Planning n σ r b P → (i : ℕ) → i < n
+  no-larger : (P : ℕ) (a b : plan.Rooms) → plan.Planning n σ D r a P → plan.Planning n σ D r b P → (i : ℕ) → i < n
       → getD (a .starts) i 0 ≤ getD (b .starts) i 0
   no-larger P a b p q i h =
       let place : suc i - 1 ≡ i = omega arith in
@@ -65,21 +69,21 @@ module _ (n : ℕ) (σ : List Step) (r : plan.Rooms) where
       run : Run P σ (plan.momentsIn (a .times)) (plan.startsIn (b .starts))
       run = subst (λ l. Run P σ (plan.momentsIn l) (plan.startsIn (b .starts))) (sym (same-times P a b p q)) (q .planned .run)
 
-  same-starts : (P : ℕ) (a b : plan.Rooms) → plan.Planning n σ r a P → plan.Planning n σ r b P → a .starts ≡ b .starts
+  same-starts : (P : ℕ) (a b : plan.Rooms) → plan.Planning n σ D r a P → plan.Planning n σ D r b P → a .starts ≡ b .starts
   same-starts P a b p q =
       same-kept n (r .starts) (a .starts) (b .starts) (p .starts) (q .starts)
       (λ i h. omega (arith, no-larger P a b p q i h, no-larger P b a q p i h))
 
-  same-rooms : (P : ℕ) (a b : plan.Rooms) → plan.Planning n σ r a P → plan.Planning n σ r b P → a ≡ b
+  same-rooms : (P : ℕ) (a b : plan.Rooms) → plan.Planning n σ D r a P → plan.Planning n σ D r b P → a ≡ b
   same-rooms P a b p q =
       ap (λ l. plan.rooms l (a .starts) (a .loop)) (same-times P a b p q)
       ∙ ap (λ l. plan.rooms (b .times) l (a .loop)) (same-starts P a b p q)
       ∙ ap (λ l. plan.rooms (b .times) (b .starts) l) (p .loop ∙ sym (q .loop))
 
   -- where there is a plan, there is no loop
-  no-loop : (P m : ℕ) (a b : plan.Rooms) → Clocks n σ → plan.Planning n σ r a P → plan.Refuted n σ r b m → ⊥
-  no-loop P m a b on p q =
-      loop-refutes n σ anyStarts _ on (any-places n) (q .loop)
+  no-loop : (P m : ℕ) (a b : plan.Rooms) → plan.Planning n σ D r a P → plan.Refuted n σ D r b m → ⊥
+  no-loop P m a b p q =
+      loop-refutes n σ D _ on places (q .loop)
       (record {
         parts = P;
         positive = omega (arith, p .parts);
@@ -89,23 +93,18 @@ module _ (n : ℕ) (σ : List Step) (r : plan.Rooms) where
         run = p .planned .run;
       })
 
-  agree : (x y : Outcome) (a b : plan.Rooms) → Clocks n σ → plan.Answered n σ r a x → plan.Answered n σ r b y → Agree x a y b
-  agree (Found P) (Found Q) a b on p q =
+  agree : (x y : Outcome) (a b : plan.Rooms) → plan.Answered n σ D r a x → plan.Answered n σ D r b y → Agree x a y b
+  agree (Found P) (Found Q) a b p q =
       let e : Q ≡ P = q .parts ∙ sym (p .parts) in
-      (ap Found (sym e), same-rooms P a b p (subst (λ c. plan.Planning n σ r b c) e q))
-  agree (Found P) (Loop m) a b on p q = absurd (no-loop P m a b on p q)
-  agree (Found P) (Refused f) a b on p q = absurd q
-  agree (Loop m) (Found Q) a b on p q = absurd (no-loop Q m b a on q p)
-  agree (Loop m) (Loop m′) a b on p q = (tt, p .times ∙ sym (q .times), p .starts ∙ sym (q .starts))
-  agree (Loop m) (Refused f) a b on p q = absurd q
-  agree (Refused f) y a b on p q = absurd p
+      (ap Found (sym e), same-rooms P a b p (subst (λ c. plan.Planning n σ D r b c) e q))
+  agree (Found P) (Loop m) a b p q = absurd (no-loop P m a b p q)
+  agree (Found P) (Refused f) a b p q = absurd q
+  agree (Loop m) (Found Q) a b p q = absurd (no-loop Q m b a q p)
+  agree (Loop m) (Loop m′) a b p q = (tt, p .times ∙ sym (q .times), p .starts ∙ sym (q .starts))
+  agree (Loop m) (Refused f) a b p q = absurd q
+  agree (Refused f) y a b p q = absurd p
 
-  -- two refusals agree
-  pub refused : (f : Refusal) (x y : Outcome) (a b : plan.Rooms) → (x ≡ Refused f) × (a ≡ r) → (y ≡ Refused f) × (b ≡ r)
+  pub meets : (q : Admission) (x y : Outcome) (a b : plan.Rooms) → plan.Meets q n σ D r a x → plan.Meets q n σ D r b y
       → Agree x a y b
-  refused f x y a b p q = subst (λ z. Agree z a y b) (sym (p .0)) (sym (q .0), p .1 ∙ sym (q .1))
-
-  pub meets : (q : Admission) (x y : Outcome) (a b : plan.Rooms) → Clocks n σ → plan.Meets q n σ r a x → plan.Meets q n σ r b y
-      → Agree x a y b
-  meets (admission.Refused f) x y a b on p q = refused f x y a b p q
-  meets admission.Accepted x y a b on p q = agree x y a b on p q
+  meets (admission.Refused f) x y a b p q = refused r f x y a b p q
+  meets admission.Accepted x y a b p q = agree x y a b p q

@@ -13,6 +13,9 @@ use Rattle.wire.specs.Listing.{listing, cycle}
 use Rattle.wire.specs.Records.{Bytes}
 use Rattle.asking.specs.Rounds.{guards-on}
 use Rattle.runs.specs.Run.{copies}
+use Rattle.runs.specs.declared.Start.{Start}
+use Rattle.runs.specs.Demand.{startsOf}
+use Rattle.runs.specs.Start.{upper-places, start-upper}
 use Rattle.plan.specs.declared.Outcome.{Outcome}
 use Rattle.plan.specs.declared.Outcome.the-variants.{Found, Loop, Refused}
 use Rattle.asking.specs.declared.Admission.the-variants as admission
@@ -30,9 +33,9 @@ asking-refused bytes k r f e =
     ap (λ o. elim o [ read.Counted n L g ↦ plan.admitRooms n L k r | read.Refused f ↦ admission.Refused f ]) e
 
 -- Two answers to the question "plan for k" agree.
-pub plan-answers-agree : (bytes : List ℕ) → Bytes bytes → (k : ℕ) (r a b : plan.Rooms) (x y : Outcome)
-    → plan.Answers bytes k r a x → plan.Answers bytes k r b y → Agree x a y b
-plan-answers-agree bytes small k r a b x y p q = go (readOf bytes) refl
+pub plan-answers-agree : (bytes : List ℕ) → Bytes bytes → (v : Start) (k : ℕ) (r a b : plan.Rooms) (x y : Outcome)
+    → plan.Answers bytes v k r a x → plan.Answers bytes v k r b y → Agree x a y b
+plan-answers-agree bytes small v k r a b x y p q = go (readOf bytes) refl
   where
     n : ℕ
     n = listing bytes .clocks
@@ -42,12 +45,13 @@ plan-answers-agree bytes small k r a b x y p q = go (readOf bytes) refl
 
     go : (o : Read) → readOf bytes ≡ o → Agree x a y b
     go (read.Counted m L g) e =
-        meets n σ r (plan.askingOf bytes k r) x y a b (guards-on bytes small k m L g e) (p .answers) (q .answers)
+        meets n σ (startsOf v) (guards-on bytes small k m L g e) (upper-places n (startsOf v) (start-upper v n)) r (plan.askingOf bytes k r) x y
+        a b (p .answers) (q .answers)
     go (read.Refused f) e =
         let asking = asking-refused bytes k r f e in
-        refused n σ r f x y a b
-        (subst (λ z. plan.Meets z n σ r a x) asking (p .answers))
-        (subst (λ z. plan.Meets z n σ r b y) asking (q .answers))
+        refused r f x y a b
+        (subst (λ z. plan.Meets z n σ (startsOf v) r a x) asking (p .answers))
+        (subst (λ z. plan.Meets z n σ (startsOf v) r b y) asking (q .answers))
 
 -- a loop is told in the answer room
 pub record LoopTold (room room′ : List ℕ) : Type 0 where
@@ -59,13 +63,13 @@ abbrev pub OneOrLoops : plan.Rooms → plan.Rooms → List ℕ → List ℕ → 
 OneOrLoops a b room c d = ((a ≡ b) × (c ≡ d)) ⊎ (LoopTold room c × LoopTold room d × (a .times ≡ b .times) × (a .starts ≡ b .starts))
 
 -- The rooms of the entry "plan" are determined, the answer room too, unless no run exists.
-pub plan-told-one : (roomy : Bool) (bytes : List ℕ) → Bytes bytes → (k : ℕ) (r a b : plan.Rooms) (room c d : List ℕ)
-    → PlanTold roomy bytes k r a room c → PlanTold roomy bytes k r b room d
+pub plan-told-one : (roomy : Bool) (bytes : List ℕ) → Bytes bytes → (v : Start) (k : ℕ) (r a b : plan.Rooms) (room c d : List ℕ)
+    → PlanTold roomy bytes v k r a room c → PlanTold roomy bytes v k r b room d
     → OneOrLoops a b room c d
-plan-told-one false bytes small k r a b room c d p q = inl (p .0 ∙ sym (q .0), p .1 ∙ sym (q .1))
-plan-told-one true bytes small k r a b room c d p q =
+plan-told-one false bytes small v k r a b room c d p q = inl (p .0 ∙ sym (q .0), p .1 ∙ sym (q .1))
+plan-told-one true bytes small v k r a b room c d p q =
     go (p .outcome) (q .outcome) (p .numbers) (q .numbers)
-    (plan-answers-agree bytes small k r a b (p .outcome) (q .outcome) (p .answers) (q .answers))
+    (plan-answers-agree bytes small v k r a b (p .outcome) (q .outcome) (p .answers) (q .answers))
   where
     same : (x y : Outcome) → c ≡ answered room (planNumbers x) → d ≡ answered room (planNumbers y) → x ≡ y → c ≡ d
     same x y e f h = e ∙ ap (λ z. answered room (planNumbers z)) h ∙ sym f

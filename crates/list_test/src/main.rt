@@ -1,6 +1,7 @@
 // Writes the demands of a table to lists of records that are too short, exact and longer, and prints them.
 use demand_list::Line;
 use demands::Listed;
+use runs::Start;
 use testkit::cells;
 use testkit::field;
 use testkit::number;
@@ -23,16 +24,16 @@ struct Done {
 }
 
 // The list entry at the first n of some records.
-fn run(bytes: &[u8], k: u64, row: &mut [i64], lines: [Line; 13], n: usize) -> Done
+fn run(bytes: &[u8], start: Start, k: u64, row: &mut [i64], lines: [Line; 13], n: usize) -> Done
     requires { ⌜ n ≤ 13 ⌝ }
-    ensures { λ r. ⌜ (r .listed ≡ listedOf (now (bytes .entry)) k (listRoom (now (row .entry)) (take n lines)))
+    ensures { λ r. ⌜ (r .listed ≡ listedOf (now (bytes .entry)) start k (listRoom (now (row .entry)) (take n lines)))
         × (now (row .exit)
-        ≡ rowOf (now (bytes .entry)) k (listRoom (now (row .entry)) (take n lines)) (now (row .entry)))
+        ≡ rowOf (now (bytes .entry)) start k (listRoom (now (row .entry)) (take n lines)) (now (row .entry)))
         × (r .lines
-        ≡ listOf (now (bytes .entry)) k (listRoom (now (row .entry)) (take n lines)) (take n lines) ++ drop n lines) ⌝ }
+        ≡ listOf (now (bytes .entry)) start k (listRoom (now (row .entry)) (take n lines)) (take n lines) ++ drop n lines) ⌝ }
 {
     let mut list = lines;
-    let listed = demand_list::demand_list(bytes, k, row, &mut list[..n]);
+    let listed = demand_list::demand_list(bytes, start, k, row, &mut list[..n]);
     Done {
         listed,
         lines: list,
@@ -68,9 +69,9 @@ fn records(lines: [Line; 13]) {
     word(b"|\n");
 }
 
-// The list entry on S2 for 3 rounds, which have 11 demands, at a list of n records that are all 9s: the answer, then all 13
+// The list entry on k rounds of one of testkit's tables, at a list of n records that are all 9s: the answer, then all 13
 // records and the row as they then are.
-fn show(name: &[u8], row: &mut [i64], n: usize)
+fn show(name: &[u8], start: Start, case: usize, k: u64, row: &mut [i64], n: usize)
     requires { ⌜ n ≤ 13 ⌝ }
 {
     let tape = testkit::TABLES;
@@ -81,7 +82,7 @@ fn show(name: &[u8], row: &mut [i64], n: usize)
         strict: 9,
     };
     let lines = [nine; 13];
-    let done = run(table(&tape, 2), 3, &mut *row, lines, n);
+    let done = run(table(&tape, case), start, k, &mut *row, lines, n);
     let listed = done.listed;
     let list = done.lines;
     title(name);
@@ -90,13 +91,42 @@ fn show(name: &[u8], row: &mut [i64], n: usize)
     cells(&*row, 0);
 }
 
+// S2 for 3 rounds mid-shift, which have 11 demands.
+fn mid_shift(name: &[u8], row: &mut [i64], n: usize)
+    requires { ⌜ n ≤ 13 ⌝ }
+{
+    show(name, Start::MidShift, 2, 3, row, n);
+}
+
+// The same from log-in: 13 demands.
+fn log_in(name: &[u8], row: &mut [i64], n: usize)
+    requires { ⌜ n ≤ 13 ⌝ }
+{
+    show(name, Start::LogIn, 2, 3, row, n);
+}
+
+// S1 for 1 round from log-in: 4 demands.
+fn one_round(name: &[u8], row: &mut [i64], n: usize)
+    requires { ⌜ n ≤ 13 ⌝ }
+{
+    show(name, Start::LogIn, 1, 1, row, n);
+}
+
 fn main() {
     let mut short = [9i64; 44];
-    show(b"10 records, 44 cells", &mut short, 10);
+    mid_shift(b"10 records, 44 cells", &mut short, 10);
     let mut exact = [9i64; 44];
-    show(b"11 records, 44 cells", &mut exact, 11);
+    mid_shift(b"11 records, 44 cells", &mut exact, 11);
     let mut longer = [9i64; 46];
-    show(b"13 records, 46 cells", &mut longer, 13);
+    mid_shift(b"13 records, 46 cells", &mut longer, 13);
     let mut narrow = [9i64; 43];
-    show(b"11 records, 43 cells", &mut narrow, 11);
+    mid_shift(b"11 records, 43 cells", &mut narrow, 11);
+    let mut whole = [9i64; 52];
+    log_in(b"log-in, 12 records, 52 cells", &mut whole, 12);
+    log_in(b"log-in, 13 records, 52 cells", &mut whole, 13);
+    let mut cut = [9i64; 51];
+    log_in(b"log-in, 13 records, 51 cells", &mut cut, 13);
+    let mut few = [9i64; 16];
+    one_round(b"S1 for 1, log-in, 3 records, 16 cells", &mut few, 3);
+    one_round(b"S1 for 1, log-in, 4 records, 16 cells", &mut few, 4);
 }

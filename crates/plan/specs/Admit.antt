@@ -16,6 +16,8 @@ use Rattle.format.specs.Accepted.{Written, accepted-written}
 use Rattle.decode.specs.Represent.{Represents}
 use Rattle.decode.specs.Meaning.{table-represents}
 use Rattle.runs.specs.Run.{copies}
+use Rattle.runs.specs.declared.Start.{Start}
+use Rattle.runs.specs.Demand.{Starts, startsOf}
 use Rattle.asking.specs.declared.Admission.{Admission}
 use Rattle.asking.specs.declared.Admission.the-variants as admission
 use Rattle.plan.specs.declared.Outcome.{Outcome}
@@ -28,23 +30,23 @@ use Rattle.solving.specs.Solve.{Roomy}
 use Rattle.plan.specs.Rows.{rowsOf}
 
 -- ---- all tests have held
-pub admit-sized : (t : Table) (k : ℕ) (r : Rooms) → Tabled t → admitRooms (t .clocks) (t .steps) k r ≡ admission.Accepted
-    → Sized t k × Roomy (rowsOf t k) (r .times) (r .starts) (r .loop)
-admit-sized t k r g e =
+pub admit-sized : (t : Table) (v : Start) (k : ℕ) (r : Rooms) → Tabled t → admitRooms (t .clocks) (t .steps) k r ≡ admission.Accepted
+    → Sized t k × Roomy (rowsOf t v k) (r .times) (r .starts) (r .loop)
+admit-sized t v k r g e =
     let h = admit-held _ _ _ _ _ _ e in (
       record { good = g .good; clocks = g .clocks; some = h .some; few = h .few },
       record { times = h .times; starts = h .starts; loop = h .loop },
     )
 
 -- ---- the answer
-pub meets-refused : (q : Admission) (n : ℕ) (σ : List Step) (r r′ : Rooms) (f : Refusal) → q ≡ admission.Refused f
-    → r′ ≡ r → Meets q n σ r r′ (outcome.Refused f)
-meets-refused q n σ r r′ f e same =
-    subst (λ (x : Admission). Meets x n σ r r′ (outcome.Refused f)) (sym e) (refl, same)
+pub meets-refused : (q : Admission) (n : ℕ) (σ : List Step) (D : Starts) (r r′ : Rooms) (f : Refusal) → q ≡ admission.Refused f
+    → r′ ≡ r → Meets q n σ D r r′ (outcome.Refused f)
+meets-refused q n σ D r r′ f e same =
+    subst (λ (x : Admission). Meets x n σ D r r′ (outcome.Refused f)) (sym e) (refl, same)
 
-pub meets-accepted : (q : Admission) (n : ℕ) (σ : List Step) (r r′ : Rooms) (a : Outcome) → q ≡ admission.Accepted
-    → Answered n σ r r′ a → Meets q n σ r r′ a
-meets-accepted q n σ r r′ a e h = subst (λ (x : Admission). Meets x n σ r r′ a) (sym e) h
+pub meets-accepted : (q : Admission) (n : ℕ) (σ : List Step) (D : Starts) (r r′ : Rooms) (a : Outcome) → q ≡ admission.Accepted
+    → Answered n σ D r r′ a → Meets q n σ D r r′ a
+meets-accepted q n σ D r r′ a e h = subst (λ (x : Admission). Meets x n σ D r r′ a) (sym e) h
 
 -- ---- the question to the bytes
 asking-refused : (bytes : List ℕ) (k : ℕ) (r : Rooms) (f : Refusal) → readOf bytes ≡ read.Refused f
@@ -52,9 +54,9 @@ asking-refused : (bytes : List ℕ) (k : ℕ) (r : Rooms) (f : Refusal) → read
 unfolding askingOf
 asking-refused bytes k r f e = rw (askingOf, e) refl
 
-pub refused-answers : (bytes : List ℕ) (k : ℕ) (r : Rooms) (f : Refusal) → readOf bytes ≡ read.Refused f
-    → Answers bytes k r r (outcome.Refused f)
-refused-answers bytes k r f e = record { answers = meets-refused _ _ _ r r f (asking-refused bytes k r f e) refl }
+pub refused-answers : (bytes : List ℕ) (v : Start) (k : ℕ) (r : Rooms) (f : Refusal) → readOf bytes ≡ read.Refused f
+    → Answers bytes v k r r (outcome.Refused f)
+refused-answers bytes v k r f e = record { answers = meets-refused _ _ _ (startsOf v) r r f (asking-refused bytes k r f e) refl }
 
 asking-counted : (bytes : List ℕ) (k : ℕ) (r : Rooms) (n L g : ℕ) → readOf bytes ≡ read.Counted n L g
     → askingOf bytes k r ≡ admitRooms n L k r
@@ -79,15 +81,15 @@ module _ (bytes : List ℕ) (small : Bytes bytes) (n L g : ℕ) (e : readOf byte
       })
 
   -- Its answer is the answer to the bytes.
-  pub counted-answers : (t : Table) → t ≡ tableOf bytes → (k : ℕ) (r r′ : Rooms) (a : Outcome)
-      → Meets (admitRooms (t .clocks) (t .steps) k r) (t .clocks) (roundsOf t k) r r′ a → Answers bytes k r r′ a
-  counted-answers t f k r r′ a m =
+  pub counted-answers : (t : Table) → t ≡ tableOf bytes → (v : Start) (k : ℕ) (r r′ : Rooms) (a : Outcome)
+      → Meets (admitRooms (t .clocks) (t .steps) k r) (t .clocks) (roundsOf t k) (startsOf v) r r′ a → Answers bytes v k r r′ a
+  counted-answers t f v k r r′ a m =
       record {
         answers =
-            subst (λ (q : Admission). Meets q (clocksOf bytes) (roundsIn bytes k) r r′ a) same
-            (subst (λ (σ : List Step). Meets (admitRooms n L k r) (clocksOf bytes) (copies σ k) r r′ a) steps
-            (subst (λ (c : ℕ). Meets (admitRooms n L k r) c (roundsOf t k) r r′ a) clocks
-            (subst (λ (q : Admission). Meets q (t .clocks) (roundsOf t k) r r′ a) tests m)));
+            subst (λ (q : Admission). Meets q (clocksOf bytes) (roundsIn bytes k) (startsOf v) r r′ a) same
+            (subst (λ (σ : List Step). Meets (admitRooms n L k r) (clocksOf bytes) (copies σ k) (startsOf v) r r′ a) steps
+            (subst (λ (c : ℕ). Meets (admitRooms n L k r) c (roundsOf t k) (startsOf v) r r′ a) clocks
+            (subst (λ (q : Admission). Meets q (t .clocks) (roundsOf t k) (startsOf v) r r′ a) tests m)));
       }
     where
       clocks : t .clocks ≡ clocksOf bytes

@@ -7,7 +7,8 @@ use Rattle.table.specs.Step.{Step}
 use Rattle.table.specs.declared.Fault.the-variants as fault
 use Rattle.table.specs.declared.Read.the-variants.{Counted, Refused}
 use Rattle.wire.specs.Reading.{readOf}
-use Rattle.runs.specs.Demand.{anyStarts, demands}
+use Rattle.runs.specs.declared.Start.{Start}
+use Rattle.runs.specs.Demand.{Starts, startsOf, demands}
 use Rattle.runs.specs.Loop as runs
 use Rattle.plan.specs.declared.Outcome.{Outcome}
 use Rattle.plan.specs.declared.Outcome.the-variants as outcome
@@ -40,28 +41,28 @@ pub record KeptFrom (n : ℕ) (l l′ : List ℕ) : Type 0 where
   pub size : length l′ ≡ length l
   pub rest : drop n l′ ≡ drop n l
 
--- ---- the two answers, for steps σ with clocks 1 to n
+-- ---- the two answers, for steps σ with clocks 1 to n, from starts that D allows
 -- A run exists: P = K + n + 1, and the plan in P parts to a tick is in the first places of two rooms.
-pub record Planning (n : ℕ) (σ : List Step) (r r′ : Rooms) (P : ℕ) : Type 0 where
+pub record Planning (n : ℕ) (σ : List Step) (D : Starts) (r r′ : Rooms) (P : ℕ) : Type 0 where
   pub parts : P ≡ length σ + n + 1
-  pub planned : Planned P n σ anyStarts (momentsIn (r′ .times)) (startsIn (r′ .starts))
+  pub planned : Planned P n σ D (momentsIn (r′ .times)) (startsIn (r′ .starts))
   pub times : KeptFrom (length σ) (r .times) (r′ .times)
   pub starts : KeptFrom n (r .starts) (r′ .starts)
   pub loop : r′ .loop ≡ r .loop
 
 -- No run exists: a loop of m moments is in the first places of the third room.
-pub record Refuted (n : ℕ) (σ : List Step) (r r′ : Rooms) (m : ℕ) : Type 0 where
-  pub loop : runs.Loop (demands n σ anyStarts) (take m (r′ .loop))
+pub record Refuted (n : ℕ) (σ : List Step) (D : Starts) (r r′ : Rooms) (m : ℕ) : Type 0 where
+  pub loop : runs.Loop (demands n σ D) (take m (r′ .loop))
   pub few : m ≤ length (r .loop)
   pub rest : KeptFrom m (r .loop) (r′ .loop)
   pub times : r′ .times ≡ r .times
   pub starts : r′ .starts ≡ r .starts
 
 -- one of the two
-abbrev pub Answered : ℕ → List Step → Rooms → Rooms → Outcome → Type 0
-Answered n σ r r′ (outcome.Found P) = Planning n σ r r′ P
-Answered n σ r r′ (outcome.Loop m) = Refuted n σ r r′ m
-Answered n σ r r′ (outcome.Refused f) = ⊥
+abbrev pub Answered : ℕ → List Step → Starts → Rooms → Rooms → Outcome → Type 0
+Answered n σ D r r′ (outcome.Found P) = Planning n σ D r r′ P
+Answered n σ D r r′ (outcome.Loop m) = Refuted n σ D r r′ m
+Answered n σ D r r′ (outcome.Refused f) = ⊥
 
 -- ---- what is refused
 -- the tests after the table: n clocks, L steps, k rounds
@@ -73,10 +74,10 @@ unfoldable pub askingOf : List ℕ → ℕ → Rooms → Admission
 askingOf bytes k r = elim (readOf bytes) [ Counted n L g ↦ admitRooms n L k r | Refused f ↦ admission.Refused f ]
 
 -- A refusal, and rooms that are untouched; or else the answer.
-abbrev pub Meets : Admission → ℕ → List Step → Rooms → Rooms → Outcome → Type 0
-Meets (admission.Refused f) n σ r r′ a = (a ≡ outcome.Refused f) × (r′ ≡ r)
-Meets admission.Accepted n σ r r′ a = Answered n σ r r′ a
+abbrev pub Meets : Admission → ℕ → List Step → Starts → Rooms → Rooms → Outcome → Type 0
+Meets (admission.Refused f) n σ D r r′ a = (a ≡ outcome.Refused f) × (r′ ≡ r)
+Meets admission.Accepted n σ D r r′ a = Answered n σ D r r′ a
 
--- The answer to "plan for k", of the table that the bytes write down: the rooms hold r before and r′ after.
-pub record Answers (bytes : List ℕ) (k : ℕ) (r r′ : Rooms) (a : Outcome) : Type 0 where
-  pub answers : Meets (askingOf bytes k r) (clocksOf bytes) (roundsIn bytes k) r r′ a
+-- The answer to "plan for k", of the table that the bytes write down, in a variant of the start: the rooms hold r before and r′ after.
+pub record Answers (bytes : List ℕ) (v : Start) (k : ℕ) (r r′ : Rooms) (a : Outcome) : Type 0 where
+  pub answers : Meets (askingOf bytes k r) (clocksOf bytes) (roundsIn bytes k) (startsOf v) r r′ a

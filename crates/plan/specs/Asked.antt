@@ -14,10 +14,12 @@ use Rattle.table.specs.declared.Relation.the-variants.{Under, AtMost, Exactly, 
 use Rattle.runs.specs.Run.{zeroed}
 use Rattle.runs.specs.declared.Demand.{Demand}
 use Rattle.runs.specs.Demand.{plus, minus, guardDemands, guardsDemands, stepsDemands}
-use Rattle.runs.specs.Demand.{Starts, anyStarts, moved, startDemands, demands, Clocks, Places}
-use Rattle.runs.specs.DemandRange.{Proper, demands-proper, any-proper}
+use Rattle.runs.specs.declared.Start.{Start}
+use Rattle.runs.specs.Demand.{Starts, startsOf, moved, startDemands, demands, Clocks, Places}
+use Rattle.runs.specs.Start.{start-upper, upper-plain}
+use Rattle.runs.specs.DemandRange.{Proper, demands-proper}
 use Rattle.runs.specs.Tools.{Every, every-nil, every-cons, every-append, every-map}
-use Rattle.runs.specs.Allowed.{Plain, any-plain}
+use Rattle.runs.specs.Allowed.{Plain}
 use Rattle.runs.specs.Copies.{fairs-copies, clocks-copies}
 use Rattle.constraints.specs.Sized.{Sized, roundsOf}
 
@@ -28,13 +30,15 @@ pub record Asked (n : ℕ) (σ : List Step) (D : Starts) : Type 0 where
   pub proper : (j : ℕ) → 0 < j → j ≤ n → Every (Proper n) (D j)
   pub plain : Plain n D
 
--- 01's questions: any start is allowed
-pub asked-any : (n : ℕ) (σ : List Step) → Fairs σ → Clocks n σ → Asked n σ anyStarts
-asked-any n σ f c = record { fair = f; clocks = c; proper = λ j p l. any-proper n j; plain = any-plain n }
+-- in each variant of the start
+pub asked-start : (v : Start) (n : ℕ) (σ : List Step) → Fairs σ → Clocks n σ → Asked n σ (startsOf v)
+asked-start v n σ f c =
+    let u = start-upper v n in
+    record { fair = f; clocks = c; proper = u .proper; plain = upper-plain n (startsOf v) u }
 
-pub sized-asked : (t : Table) (k : ℕ) → Sized t k → Asked (t .clocks) (roundsOf t k) anyStarts
-sized-asked t k z =
-    asked-any (t .clocks) (roundsOf t k) (fairs-copies (stepsOf t) k (z .good .fair))
+pub sized-asked : (t : Table) (v : Start) (k : ℕ) → Sized t k → Asked (t .clocks) (roundsOf t k) (startsOf v)
+sized-asked t v k z =
+    asked-start v (t .clocks) (roundsOf t k) (fairs-copies (stepsOf t) k (z .good .fair))
     (clocks-copies (t .clocks) (stepsOf t) k (z .clocks))
 
 -- no demand joins the last resets of two clocks before the start

@@ -4,14 +4,14 @@ use Prim.Native.Nat.{ℕ}
 use native.Mathlib.Omega.{arith}
 use lib.ListN.{length, take}
 use Rattle.table.specs.Step.{Step}
-use Rattle.runs.specs.Demand.{anyStarts, Exists}
+use Rattle.runs.specs.Demand.{Starts, Exists}
 use Rattle.runs.specs.Refutes.{loop-refutes}
 use Rattle.plan.specs.Answer.{Rooms, momentsIn, startsIn, Planning, Refuted}
 use Rattle.plan.specs.Asked.{Asked, asked-places}
 
 -- Where a plan is found, a run exists.
-pub found-exists : (n : ℕ) (σ : List Step) (r r′ : Rooms) (P : ℕ) → Planning n σ r r′ P → Exists n anyStarts σ
-found-exists n σ r r′ P f =
+pub found-exists : (n : ℕ) (σ : List Step) (D : Starts) (r r′ : Rooms) (P : ℕ) → Planning n σ D r r′ P → Exists n D σ
+found-exists n σ D r r′ P f =
     record {
       parts = P;
       positive = omega (arith, f .parts);
@@ -22,7 +22,6 @@ found-exists n σ r r′ P f =
     }
 
 -- Where a loop is found, none exists.
-pub refuted-none : (n : ℕ) (σ : List Step) (r r′ : Rooms) (m : ℕ) → Asked n σ anyStarts → Refuted n σ r r′ m
-    → Exists n anyStarts σ → ⊥
-refuted-none n σ r r′ m a f =
-    loop-refutes n σ anyStarts (take m (r′ .loop)) (a .clocks) (asked-places n σ anyStarts a) (f .loop)
+pub refuted-none : (n : ℕ) (σ : List Step) (D : Starts) (r r′ : Rooms) (m : ℕ) → Asked n σ D → Refuted n σ D r r′ m
+    → Exists n D σ → ⊥
+refuted-none n σ D r r′ m a f = loop-refutes n σ D (take m (r′ .loop)) (a .clocks) (asked-places n σ D a) (f .loop)

@@ -8,7 +8,8 @@ use lib.ListN.{length, take, length-take}
 use Rattle.table.specs.Step.{Step}
 use Rattle.table.specs.declared.Table.{Table}
 use Rattle.runs.specs.declared.Demand.{Demand}
-use Rattle.runs.specs.Demand.{anyStarts}
+use Rattle.runs.specs.declared.Start.{Start}
+use Rattle.runs.specs.Demand.{Starts, startsOf}
 use Rattle.runs.specs.Loop.{Loop}
 use Rattle.constraints.specs.Demands.{demandsOf}
 use Rattle.constraints.specs.Rounds.{length-rounds}
@@ -30,7 +31,7 @@ use Rattle.plan.specs.declared.Outcome.the-variants as outcome
 use Rattle.plan.specs.Answer.{Rooms, rooms, momentsIn, startsIn, Planning, Refuted, Answered}
 use Rattle.plan.specs.Asked.{sized-asked}
 use Rattle.plan.specs.Earliest.{Least}
-use Rattle.plan.specs.Smallest.{momentsOf, startsOf, least-planned}
+use Rattle.plan.specs.Smallest.{momentsOf, smallestOf, least-planned}
 use Rattle.plan.specs.Same.{planned-same}
 use Rattle.plan.specs.Refuted.{cycle-is-loop}
 use Rattle.plan.specs.Rows.{rowsOf, rows-cover, rows-proper, rows-sound}
@@ -40,7 +41,7 @@ abbrev pub outcomeOf : ℕ → Solution → Outcome
 outcomeOf P solution.Least = outcome.Found P
 outcomeOf P (solution.Cycle m) = outcome.Loop m
 
-module _ (t : Table) (k : ℕ) (z : Sized t k) where
+module _ (t : Table) (v : Start) (k : ℕ) (z : Sized t k) where
   abbrev K : ℕ
   K = k * t .steps
 
@@ -50,37 +51,40 @@ module _ (t : Table) (k : ℕ) (z : Sized t k) where
   abbrev σ : List Step
   σ = roundsOf t k
 
+  abbrev D : Starts
+  D = startsOf v
+
   abbrev P : ℕ
   P = partsOf t k
 
   abbrev es : List Demand
-  es = sweep (rowsOf t k)
+  es = sweep (rowsOf t v k)
 
   -- ---- the least solution
-  least : (x : ℕ → ℕ) → LeastSolution (rowsOf t k) x → Least P n σ anyStarts x
+  least : (x : ℕ → ℕ) → LeastSolution (rowsOf t v k) x → Least P n σ D x
   unfolding constraintsOf
   least x h =
       record {
-        solution = covers-satisfies (rows-cover t k z) P x (omega arith) .0 (satisfies-parts P x es .1 (h .solution));
+        solution = covers-satisfies (rows-cover t v k z) P x (omega arith) .0 (satisfies-parts P x es .1 (h .solution));
         above = λ i m. h .above i (omega (arith, length-rounds t k));
-        least = λ y s b v w.
-            h .least y (satisfies-parts P y es .0 (covers-satisfies (rows-cover t k z) P y (omega arith) .1 s))
-            (λ i m. b i (omega (arith, length-rounds t k))) v (omega (arith, length-rounds t k));
+        least = λ y s b u w.
+            h .least y (satisfies-parts P y es .0 (covers-satisfies (rows-cover t v k z) P y (omega arith) .1 s))
+            (λ i m. b i (omega (arith, length-rounds t k))) u (omega (arith, length-rounds t k));
       }
 
-  module _ (times starts room times′ starts′ room′ : List ℕ) (fit : Roomy (rowsOf t k) times starts room) where
+  module _ (times starts room times′ starts′ room′ : List ℕ) (fit : Roomy (rowsOf t v k) times starts room) where
     -- It is the plan.
-    found : Plans (rowsOf t k) times starts room times′ starts′ room′
-        → Planning n σ (rooms times starts room) (rooms times′ starts′ room′) P
+    found : Plans (rowsOf t v k) times starts room times′ starts′ room′
+        → Planning n σ D (rooms times starts room) (rooms times′ starts′ room′) P
     unfolding constraintsOf
     found f =
         record {
           parts = omega (arith, length-rounds t k);
           planned =
-              planned-same P n σ anyStarts (sized-asked t k z)
-              (momentsOf (f .x)) (startsOf P es (length σ) (f .x)) (momentsIn times′) (startsIn starts′)
+              planned-same P n σ D (sized-asked t v k z)
+              (momentsOf (f .x)) (smallestOf P es (length σ) (f .x)) (momentsIn times′) (startsIn starts′)
               moments smallest
-              (least-planned P n σ anyStarts (omega arith) (sized-asked t k z) es (rows-cover t k z) (f .x) (least (f .x) (f .least)));
+              (least-planned P n σ D (omega arith) (sized-asked t v k z) es (rows-cover t v k z) (f .x) (least (f .x) (f .least)));
           times = record {
             size = ap length (f .times) ∙ length-written _ K times (fit .times);
             rest = rw (length-rounds t k) (rw (f .times) (drop-written _ K times));
@@ -97,23 +101,23 @@ module _ (t : Table) (k : ℕ) (z : Sized t k) where
         moments (suc i) m =
             ap (λ (y : List ℕ). at y i) (f .times)
             ∙ at-written _ K times i (omega (arith, length-rounds t k))
-            ∙ ap (λ (v : ℕ). f .x v - f .x 0) (omega arith)
+            ∙ ap (λ (u : ℕ). f .x u - f .x 0) (omega arith)
 
-        smallest : (j : ℕ) → 0 < j → j ≤ n → startsIn starts′ j ≡ startsOf P es (length σ) (f .x) j
+        smallest : (j : ℕ) → 0 < j → j ≤ n → startsIn starts′ j ≡ smallestOf P es (length σ) (f .x) j
         smallest j p m =
             ap (λ (y : List ℕ). at y (j - 1)) (f .starts)
             ∙ at-written _ n starts (j - 1) (omega arith)
             ∙ ap (leastStart (f .x) (allInParts P es)) (omega (arith, length-rounds t k))
 
     -- ---- a cycle is a loop
-    looped : (m : ℕ) → Cycles (rowsOf t k) times starts room times′ starts′ room′ m
-        → Refuted n σ (rooms times starts room) (rooms times′ starts′ room′) m
+    looped : (m : ℕ) → Cycles (rowsOf t v k) times starts room times′ starts′ room′ m
+        → Refuted n σ D (rooms times starts room) (rooms times′ starts′ room′) m
     unfolding constraintsOf
     looped m c =
         record {
           loop =
-              covers-loop (rows-cover t k z) (take m room′)
-              (cycle-is-loop P (K + n) es (take m room′) (rows-proper t k z) (c .cycle) (omega (arith, length-take m room′, c .short)));
+              covers-loop (rows-cover t v k z) (take m room′)
+              (cycle-is-loop P (K + n) es (take m room′) (rows-proper t v k z) (c .cycle) (omega (arith, length-take m room′, c .short)));
           few = c .few;
           rest = record { size = c .size; rest = c .rest };
           times = c .times;
@@ -121,33 +125,33 @@ module _ (t : Table) (k : ℕ) (z : Sized t k) where
         }
 
     -- What is found is the answer.
-    pub solved-answered : (s : Solution) → Solved (rowsOf t k) times starts room times′ starts′ room′ s
-        → Answered n σ (rooms times starts room) (rooms times′ starts′ room′) (outcomeOf P s)
+    pub solved-answered : (s : Solution) → Solved (rowsOf t v k) times starts room times′ starts′ room′ s
+        → Answered n σ D (rooms times starts room) (rooms times′ starts′ room′) (outcomeOf P s)
     solved-answered solution.Least f = found f
     solved-answered (solution.Cycle m) f = looped m f
 
 -- ---- the rows as they were computed
-module _ (t : Table) (k : ℕ) (z : Sized t k) (low up far : List ℕ) (e : low ≡ keysOf false t) (f : up ≡ keysOf true t)
+module _ (t : Table) (v : Start) (k : ℕ) (z : Sized t k) (low up far : List ℕ) (e : low ≡ keysOf false t) (f : up ≡ keysOf true t)
     (g : far ≡ distancesOf t) where
-  same : rowsOf t k ≡ rows low up far (t .steps) (t .clocks) (k * t .steps)
+  same : rowsOf t v k ≡ rows low up far v (t .steps) (t .clocks) (k * t .steps)
   same =
-      sym (ap (λ l. rows l up far (t .steps) (t .clocks) (k * t .steps)) e
-      ∙ ap (λ l. rows (keysOf false t) l far (t .steps) (t .clocks) (k * t .steps)) f
-      ∙ ap (λ l. rows (keysOf false t) (keysOf true t) l (t .steps) (t .clocks) (k * t .steps)) g)
+      sym (ap (λ l. rows l up far v (t .steps) (t .clocks) (k * t .steps)) e
+      ∙ ap (λ l. rows (keysOf false t) l far v (t .steps) (t .clocks) (k * t .steps)) f
+      ∙ ap (λ l. rows (keysOf false t) (keysOf true t) l v (t .steps) (t .clocks) (k * t .steps)) g)
 
-  module _ (times starts room : List ℕ) (fit : Roomy (rowsOf t k) times starts room) where
+  module _ (times starts room : List ℕ) (fit : Roomy (rowsOf t v k) times starts room) where
     -- can be solved,
-    pub rows-ready : Sound (rows low up far (t .steps) (t .clocks) (k * t .steps))
-        × Roomy (rows low up far (t .steps) (t .clocks) (k * t .steps)) times starts room
-    rows-ready = (subst Sound same (rows-sound t k z), subst (λ R. Roomy R times starts room) same fit)
+    pub rows-ready : Sound (rows low up far v (t .steps) (t .clocks) (k * t .steps))
+        × Roomy (rows low up far v (t .steps) (t .clocks) (k * t .steps)) times starts room
+    rows-ready = (subst Sound same (rows-sound t v k z), subst (λ R. Roomy R times starts room) same fit)
 
     -- and what is found is the answer.
     pub rows-answered : (times′ starts′ room′ : List ℕ) (s : Solution) (P : ℕ) (o : Outcome)
-        → Solved (rows low up far (t .steps) (t .clocks) (k * t .steps)) times starts room times′ starts′ room′ s
+        → Solved (rows low up far v (t .steps) (t .clocks) (k * t .steps)) times starts room times′ starts′ room′ s
         → P ≡ partsOf t k → o ≡ outcomeOf P s
-        → Answered (t .clocks) (roundsOf t k) (rooms times starts room) (rooms times′ starts′ room′) o
+        → Answered (t .clocks) (roundsOf t k) (startsOf v) (rooms times starts room) (rooms times′ starts′ room′) o
     rows-answered times′ starts′ room′ s P o h a b =
-        subst (Answered (t .clocks) (roundsOf t k) (rooms times starts room) (rooms times′ starts′ room′))
+        subst (Answered (t .clocks) (roundsOf t k) (startsOf v) (rooms times starts room) (rooms times′ starts′ room′))
         (sym (b ∙ ap (λ q. outcomeOf q s) a))
-        (solved-answered t k z times starts room times′ starts′ room′ fit s
+        (solved-answered t v k z times starts room times′ starts′ room′ fit s
         (subst (λ R. Solved R times starts room times′ starts′ room′ s) (sym same) h))

@@ -7,6 +7,7 @@ pub mod Earliest
 -- with the smallest starts it is the plan
 pub mod Smallest
 pub mod Same
+pub mod LogIn
 -- a negative cycle is a loop
 pub mod Refuted
 pub mod Decides

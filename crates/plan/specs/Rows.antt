@@ -1,4 +1,4 @@
--- The rows of a table: what their passes check stands for the demands of k rounds.
+-- The rows of a table and a variant of the start: what their passes check stands for the demands of k rounds.
 use mathlib.Core.Path.{_≡_}
 use mathlib.Core.Bool.{Bool, true, false}
 use mathlib.Core.List.{List·Memᴰ}
@@ -7,8 +7,9 @@ use native.Mathlib.Omega.{arith}
 use native.Mathlib.Nat.{mul-le-mul-right, mul-le-mul-left, mul-mod-left}
 use Rattle.table.specs.declared.Table.{Table}
 use Rattle.runs.specs.declared.Demand.{Demand}
+use Rattle.runs.specs.declared.Start.{Start}
 use Rattle.runs.specs.DemandRange.{Proper}
-use Rattle.runs.specs.Parts.{bit, gain, loss}
+use Rattle.runs.specs.Parts.{bit, gain, loss, bit-small}
 use Rattle.runs.specs.Tools.{Every}
 use Rattle.constraints.specs.Demands.{demandsOf}
 use Rattle.constraints.specs.Sized.{Sized, partsOf, sized-parts, sized-proper}
@@ -19,21 +20,17 @@ use Rattle.sweeps.specs.Covered.{covers-sweep}
 use Rattle.checks.specs.Checks.{unit, Slight}
 use Rattle.relaxing.specs.Rows.{Rows, rows, sweep, Sound}
 
-abbrev pub rowsOf : Table → ℕ → Rows
-rowsOf t k = rows (keysOf false t) (keysOf true t) (distancesOf t) (t .steps) (t .clocks) (k * t .steps)
+abbrev pub rowsOf : Table → Start → ℕ → Rows
+rowsOf t v k = rows (keysOf false t) (keysOf true t) (distancesOf t) v (t .steps) (t .clocks) (k * t .steps)
 
-bit-small : (b : Bool) → bit b ≤ 1
-bit-small true = omega arith
-bit-small false = omega arith
+module _ (t : Table) (v : Start) (k : ℕ) (z : Sized t k) where
+  pub rows-cover : Covers (sweep (rowsOf t v k)) (demandsOf t v k)
+  rows-cover = covers-sweep t k z v
 
-module _ (t : Table) (k : ℕ) (z : Sized t k) where
-  pub rows-cover : Covers (sweep (rowsOf t k)) (demandsOf t k)
-  rows-cover = covers-sweep t k z
+  pub rows-proper : Every (Proper (k * t .steps + t .clocks)) (sweep (rowsOf t v k))
+  rows-proper d m = sized-proper t k z v d (rows-cover .among d m)
 
-  pub rows-proper : Every (Proper (k * t .steps + t .clocks)) (sweep (rowsOf t k))
-  rows-proper d m = sized-proper t k z d (rows-cover .among d m)
-
-  slight : Every (Slight (partsOf t k)) (sweep (rowsOf t k))
+  slight : Every (Slight (partsOf t k)) (sweep (rowsOf t v k))
   slight d m =
       let p = rows-proper d m in
       record {
@@ -43,7 +40,7 @@ module _ (t : Table) (k : ℕ) (z : Sized t k) where
         loss = omega (arith, mul-le-mul-right (partsOf t k) (p .up), mul-le-mul-left 4000 (sized-parts t k z));
       }
 
-  pub rows-sound : Sound (rowsOf t k)
+  pub rows-sound : Sound (rowsOf t v k)
   rows-sound =
       record {
         low = keys-size false t;

@@ -26,8 +26,8 @@ use Rattle.readout.specs.LeastStart.{lag, leastStart, start-enough, start-least
 abbrev pub momentsOf : (ℕ → ℕ) → ℕ → ℕ
 momentsOf x i = x i - x 0
 
-abbrev pub startsOf : ℕ → List Demand → ℕ → (ℕ → ℕ) → ℕ → ℕ
-startsOf P ds K x j = leastStart x (allInParts P ds) (K + j)
+abbrev pub smallestOf : ℕ → List Demand → ℕ → (ℕ → ℕ) → ℕ → ℕ
+smallestOf P ds K x j = leastStart x (allInParts P ds) (K + j)
 
 -- x is a solution of the demands, and es stand for them
 module _ (P n : ℕ) (σ : List Step) (D : Starts) (a : Asked n σ D) (p : 0 < P) (es : List Demand) (covers : Covers es (demands n σ D))
@@ -42,7 +42,7 @@ module _ (P n : ℕ) (σ : List Step) (D : Starts) (a : Asked n σ D) (p : 0 < P
   t = momentsOf x
 
   abbrev s : ℕ → ℕ
-  s = startsOf P es K x
+  s = smallestOf P es K x
 
   holds : (d : Demand) → List·Memᴰ d es → x (d .to) + gain P d ≤ x (d .from) + loss P d
   holds d m = holds-parts P x d .0 (h d (covers .among d m))
@@ -145,7 +145,7 @@ module _ (P n : ℕ) (σ : List Step) (D : Starts) (a : Asked n σ D) (p : 0 < P
 
 -- The least solution above the start values is a plan.
 pub least-planned : (P n : ℕ) (σ : List Step) (D : Starts) → 0 < P → Asked n σ D → (es : List Demand) → Covers es (demands n σ D)
-    → (x : ℕ → ℕ) → Least P n σ D x → Planned P n σ D (momentsOf x) (startsOf P es (length σ) x)
+    → (x : ℕ → ℕ) → Least P n σ D x → Planned P n σ D (momentsOf x) (smallestOf P es (length σ) x)
 least-planned P n σ D p a es c x h =
     record {
       run = starts-run P n σ D a p es c x (h .solution) .0;

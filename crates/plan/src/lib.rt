@@ -3,6 +3,7 @@ use asking::Admission;
 use asking::admit;
 use decode::parse;
 use last_resets::distances;
+use runs::Start;
 use sides::keys;
 use solving::Solution;
 use spaces::solve_here;
@@ -10,6 +11,7 @@ use table::Read;
 use table::Refusal;
 use table::Table;
 ghost use mathlib.Core.Path.{_≡_};
+ghost use Rattle.runs.specs.Demand.{startsOf};
 ghost use Rattle.constraints.specs.Sized.{Sized, Tabled, roundsOf};
 ghost use Rattle.solving.specs.Solve.{Roomy};
 ghost use Rattle.plan.specs.Answer.{rooms, Answered, admitRooms, Meets, Answers};
@@ -36,13 +38,14 @@ fn told(parts: u64, found: Solution) -> Outcome
 // The plan of k rounds, or a loop.
 fn plan_rounds(
     t: Table,
+    start: Start,
     k: usize,
     times: &mut [u64],
     starts: &mut [u64],
     room: &mut [u64],
 ) -> Outcome
-    requires { ⌜ Sized t k × Roomy (rowsOf t k) (now times) (now starts) (now room) ⌝ }
-    ensures { λ a. ⌜ Answered (t .clocks) (roundsOf t k)
+    requires { ⌜ Sized t k × Roomy (rowsOf t start k) (now times) (now starts) (now room) ⌝ }
+    ensures { λ a. ⌜ Answered (t .clocks) (roundsOf t k) (startsOf start)
         (rooms (now (times .entry)) (now (starts .entry)) (now (room .entry)))
         (rooms (now (times .exit)) (now (starts .exit)) (now (room .exit))) a ⌝ }
 {
@@ -54,6 +57,7 @@ fn plan_rounds(
         &low,
         &up,
         &far,
+        start,
         t.steps,
         t.clocks,
         total,
@@ -65,32 +69,40 @@ fn plan_rounds(
 }
 
 // The question, after the table.
-fn plan_table(t: Table, k: u64, times: &mut [u64], starts: &mut [u64], room: &mut [u64]) -> Outcome
+fn plan_table(
+    t: Table,
+    start: Start,
+    k: u64,
+    times: &mut [u64],
+    starts: &mut [u64],
+    room: &mut [u64],
+) -> Outcome
     requires { ⌜ Tabled t ⌝ }
     ensures { λ a. ⌜ Meets
         (admitRooms (t .clocks) (t .steps) k (rooms (now (times .entry)) (now (starts .entry)) (now (room .entry))))
-        (t .clocks) (roundsOf t k)
+        (t .clocks) (roundsOf t k) (startsOf start)
         (rooms (now (times .entry)) (now (starts .entry)) (now (room .entry)))
         (rooms (now (times .exit)) (now (starts .exit)) (now (room .exit))) a ⌝ }
 {
     let admission = admit(t.clocks, t.steps, k, times.len(), starts.len(), room.len());
     match admission {
         Admission::Refused(refusal) => Outcome::Refused(refusal),
-        Admission::Accepted => plan_rounds(t, k as usize, times, starts, room),
+        Admission::Accepted => plan_rounds(t, start, k as usize, times, starts, room),
     }
 }
 
-// The question "plan for k" to a table's bytes. If a run exists, the parts to a tick are answered, the earliest moments stand in
+// The question "plan for k" to a table's bytes, in a variant of the start. If a run exists, the parts to a tick are answered, the earliest moments stand in
 // the first places of `times`, and the smallest starts for them in the first places of `starts`; otherwise the length of a loop is
 // answered, and its moments stand in the first places of `room`. All other places keep their contents.
 pub fn plan(
     bytes: &[u8],
+    start: Start,
     k: u64,
     times: &mut [u64],
     starts: &mut [u64],
     room: &mut [u64],
 ) -> Outcome
-    ensures { λ a. ⌜ Answers (now (bytes .entry)) k
+    ensures { λ a. ⌜ Answers (now (bytes .entry)) start k
         (rooms (now (times .entry)) (now (starts .entry)) (now (room .entry)))
         (rooms (now (times .exit)) (now (starts .exit)) (now (room .exit))) a ⌝ }
 {
@@ -102,6 +114,6 @@ pub fn plan(
             clocks: _,
             steps: _,
             guards: _,
-        } => plan_table(parsed.table, k, times, starts, room),
+        } => plan_table(parsed.table, start, k, times, starts, room),
     }
 }

@@ -11,9 +11,10 @@ use Rattle.wire.specs.Records.{Bytes}
 use Rattle.format.specs.Accepted.{Written, accepted-written}
 use Rattle.format.specs.Fair.{legal-clocks, legal-fair}
 use Rattle.asking.specs.Rounds.{clocksOf, cycleOf, roundsIn}
-use Rattle.runs.specs.Demand.{anyStarts, Exists}
+use Rattle.runs.specs.declared.Start.the-variants.{LogIn}
+use Rattle.runs.specs.Demand.{startsOf, Exists}
 use Rattle.runs.specs.Copies.{length-copies, fairs-copies, clocks-copies}
-use Rattle.plan.specs.Asked.{Asked, asked-any}
+use Rattle.plan.specs.Asked.{Asked, asked-start}
 use Rattle.plan.specs.Answer.{Rooms, admitRooms, askingOf}
 
 -- The bytes write down a table with n clocks and L steps.
@@ -23,7 +24,7 @@ pub record Tabled (bytes : List ℕ) (n L : ℕ) : Type 0 where
   pub steps-few : L ≤ 16
   pub clocks : clocksOf bytes ≡ n
   pub size : (k : ℕ) → length (roundsIn bytes k) ≡ k * L
-  pub asked : (k : ℕ) → Asked n (roundsIn bytes k) anyStarts
+  pub asked : (k : ℕ) → Asked n (roundsIn bytes k) (startsOf LogIn)
   pub admits : (k : ℕ) (r : Rooms) → askingOf bytes k r ≡ admitRooms n L k r
 
 -- Accepted bytes do so.
@@ -39,7 +40,7 @@ tabled bytes small n L g e =
           length-copies (cycleOf bytes) k
           ∙ ap (λ (m : ℕ). k * m) (length-map (listing bytes .steps) stepOf ∙ sym (w .steps));
       asked = λ k.
-          asked-any n (roundsIn bytes k) (fairs-copies (cycleOf bytes) k (legal-fair (listing bytes) (w .legal)))
+          asked-start LogIn n (roundsIn bytes k) (fairs-copies (cycleOf bytes) k (legal-fair (listing bytes) (w .legal)))
           (rw (w .clocks)
           (clocks-copies (clocksOf bytes) (cycleOf bytes) k (legal-clocks (listing bytes) (w .legal))));
       admits = λ k r. rw (askingOf, e) refl;
@@ -48,9 +49,9 @@ tabled bytes small n L g e =
     w : Written (listing bytes) bytes n L g
     w = accepted-written bytes small n L g e
 
--- one or two rounds of it, of which a run exists
+-- one or two rounds of it, of which a run from log-in exists
 pub record Plannable (bytes : List ℕ) (n L k : ℕ) : Type 0 where
   pub table : Tabled bytes n L
   pub some : 1 ≤ k
   pub few : k ≤ 2
-  pub exists : Exists n anyStarts (roundsIn bytes k)
+  pub exists : Exists n (startsOf LogIn) (roundsIn bytes k)

@@ -8,7 +8,8 @@ use lib.ListN.{length, getD}
 use Rattle.table.specs.declared.Refusal.{Refusal}
 use Rattle.text.specs.Over.{Written, written-as}
 use Rattle.asking.specs.Rounds.{clocksOf, roundsIn}
-use Rattle.runs.specs.Demand.{anyStarts}
+use Rattle.runs.specs.declared.Start.the-variants.{LogIn}
+use Rattle.runs.specs.Demand.{startsOf}
 use Rattle.plan.specs.declared.Outcome.{Outcome}
 use Rattle.plan.specs.declared.Outcome.the-variants as outcome
 use Rattle.asking.specs.declared.Admission.{Admission}
@@ -21,9 +22,9 @@ use Rattle.plan_lines.specs.PlanLines.{numberIn, planLines}
 use Rattle.plan_lines.specs.Same.{SameTo, plan-lines-same}
 use Rattle.plan_report.specs.Accepted.{Plannable}
 
--- t and s are the plan, in kL + n + 1 parts to a tick, of k rounds of the table that the bytes write down
+-- t and s are the plan by log-in, in kL + n + 1 parts to a tick, of k rounds of the table that the bytes write down
 abbrev pub PlannedIn : List ℕ → ℕ → ℕ → ℕ → (ℕ → ℕ) → (ℕ → ℕ) → Type 0
-PlannedIn bytes n L k t s = Planned (k * L + n + 1) n (roundsIn bytes k) anyStarts t s
+PlannedIn bytes n L k t s = Planned (k * L + n + 1) n (roundsIn bytes k) (startsOf LogIn) t s
 
 -- the lines of the plan of k rounds are written
 pub record WritesPlan (bytes : List ℕ) (n L k : ℕ) (before : List ℕ) (at : ℕ) (after : List ℕ) (end : ℕ) : Type 0 where
@@ -44,21 +45,21 @@ module _ (bytes : List ℕ) (n L k : ℕ) (p : Plannable bytes n L k) where
   pub steps-most : k * L ≤ 32
   steps-most = omega (arith, mul-le-mul (p .few) (p .table .steps-few))
 
-  answered-holds : (r r′ : Rooms) (a : Outcome) → Answered n (roundsIn bytes k) r r′ a → Holds bytes n L k r′ a
+  answered-holds : (r r′ : Rooms) (a : Outcome) → Answered n (roundsIn bytes k) (startsOf LogIn) r r′ a → Holds bytes n L k r′ a
   answered-holds r r′ (outcome.Found P) f = (
     parts,
-    subst (λ (m : ℕ). Planned m n (roundsIn bytes k) anyStarts (momentsIn (r′ .times)) (startsIn (r′ .starts))) parts
+    subst (λ (m : ℕ). Planned m n (roundsIn bytes k) (startsOf LogIn) (momentsIn (r′ .times)) (startsIn (r′ .starts))) parts
         (f .planned),
   )
     where
       parts : P ≡ k * L + n + 1
       parts = omega (arith, f .parts, p .table .size k)
-  answered-holds r r′ (outcome.Loop m) f = refuted-none n (roundsIn bytes k) r r′ m (p .table .asked k) f (p .exists)
+  answered-holds r r′ (outcome.Loop m) f = refuted-none n (roundsIn bytes k) (startsOf LogIn) r r′ m (p .table .asked k) f (p .exists)
   answered-holds r r′ (outcome.Refused f) x = x
 
   -- Rooms of 32, 6 and 39 places suffice, and a run exists: so the answer is a plan.
   module _ (r r′ : Rooms) (times : length (r .times) ≡ 32) (starts : length (r .starts) ≡ 6)
-      (loop : length (r .loop) ≡ 39) (a : Outcome) (x : Answers bytes k r r′ a) where
+      (loop : length (r .loop) ≡ 39) (a : Outcome) (x : Answers bytes LogIn k r r′ a) where
     all : admitRooms n L k r ≡ admission.Accepted
     all =
         admit-all n L k _ _ _ (p .some)
@@ -70,8 +71,8 @@ module _ (bytes : List ℕ) (n L k : ℕ) (p : Plannable bytes n L k) where
     pub plan-holds : Holds bytes n L k r′ a
     plan-holds =
         answered-holds r r′ a
-        (subst (λ (m : ℕ). Answered m (roundsIn bytes k) r r′ a) (p .table .clocks)
-        (subst (λ (q : Admission). Meets q (clocksOf bytes) (roundsIn bytes k) r r′ a) (p .table .admits k r ∙ all)
+        (subst (λ (m : ℕ). Answered m (roundsIn bytes k) (startsOf LogIn) r r′ a) (p .table .clocks)
+        (subst (λ (q : Admission). Meets q (clocksOf bytes) (roundsIn bytes k) (startsOf LogIn) r r′ a) (p .table .admits k r ∙ all)
         (x .answers)))
 
     pub plan-no-loop : (m : ℕ) → a ≡ outcome.Loop m → ⊥

@@ -1,11 +1,12 @@
-// The plan of one or two rounds of an accepted table: the question is asked, and the answer written as lines.
+// The plan of one or two rounds of an accepted table by log-in: the question is asked, and the answer written as lines.
 use plan::Outcome;
+use runs::Start;
 ghost use Prim.Native.Nat.{_+_, _≤_};
 ghost use lib.ListN.{length};
 ghost use Rattle.plan_report.specs.Accepted.{Plannable};
 ghost use Rattle.plan_report.specs.Found.{WritesPlan};
 
-// The plan of k rounds, one or two, of a table that has a run of as many. The rooms suffice for 2 * 16 steps and 6 clocks.
+// The plan of k rounds, one or two, of a table that has a run of as many from log-in. The rooms suffice for 2 * 16 steps and 6 clocks.
 pub fn put_rounds(
     bytes: &[u8],
     k: u64,
@@ -21,7 +22,7 @@ pub fn put_rounds(
     let mut times: [u64; 32] = [0; 32];
     let mut starts: [u64; 6] = [0; 6];
     let mut room: [u64; 39] = [0; 39];
-    let outcome = plan::plan(bytes, k, &mut times, &mut starts, &mut room);
+    let outcome = plan::plan(bytes, Start::LogIn, k, &mut times, &mut starts, &mut room);
     match outcome {
         Outcome::Found(parts) => {
             let total = k as usize * steps;

@@ -7,6 +7,7 @@ use Prim.Native.Nat.{ℕ}
 use lib.IntN.{ℤ}
 use lib.ListN.{drop}
 use Rattle.wire.specs.Reading.{readOf}
+use Rattle.runs.specs.declared.Start.{Start}
 use Rattle.plan.specs.Answer.{Rooms}
 use Rattle.demands.specs.Listed.{listedOf, rowRoom, rowOf}
 use Rattle.answers.specs.Four.{readNumbers}
@@ -29,33 +30,33 @@ module _ (bytes room room′ : List ℕ) (e : true ≡ roomy room) where
   pub read-leaves : room′ ≡ answered room (readNumbers (readOf bytes)) → Leaves (ReadSays bytes) room room′
   read-leaves h = record { numbers = readNumbers (readOf bytes); stand = h ∙ stands room _ e; says = refl }
 
-  pub rounds-leaves : RoundsTold true bytes room room′ → Leaves (RoundsSays bytes) room room′
-  rounds-leaves h =
+  pub rounds-leaves : (v : Start) → RoundsTold true bytes v room room′ → Leaves (RoundsSays bytes v) room room′
+  rounds-leaves v h =
       record {
         numbers = countNumbers (h .count);
         stand = h .numbers ∙ stands room _ e;
         says = record { count = h .count; answers = h .answers; numbers = refl };
       }
 
-  pub plan-leaves : (k : ℕ) (before after : Rooms) → PlanTold true bytes k before after room room′
-      → Leaves (PlanSays bytes k before after) room room′
-  plan-leaves k before after h =
+  pub plan-leaves : (v : Start) (k : ℕ) (before after : Rooms) → PlanTold true bytes v k before after room room′
+      → Leaves (PlanSays bytes v k before after) room room′
+  plan-leaves v k before after h =
       record {
         numbers = planNumbers (h .outcome);
         stand = h .numbers ∙ stands room _ e;
         says = record { outcome = h .outcome; answers = h .answers; numbers = refl };
       }
 
-  pub demands-leaves : (k : ℕ) (before after : List ℤ)
-      → room′ ≡ answered room (demandsNumbers (listedOf bytes k (rowRoom before))) → after ≡ listedRow room bytes k before
-      → Leaves (DemandsSays bytes k before after) room room′
+  pub demands-leaves : (v : Start) (k : ℕ) (before after : List ℤ)
+      → room′ ≡ answered room (demandsNumbers (listedOf bytes v k (rowRoom before))) → after ≡ listedRow room bytes v k before
+      → Leaves (DemandsSays bytes v k before after) room room′
   unfolding listedRow
-  demands-leaves k before after h o =
+  demands-leaves v k before after h o =
       record {
-        numbers = demandsNumbers (listedOf bytes k (rowRoom before));
+        numbers = demandsNumbers (listedOf bytes v k (rowRoom before));
         stand = h ∙ stands room _ e;
         says = record {
           numbers = refl;
-          row = o ∙ ap (λ b. cond b (rowOf bytes k (rowRoom before) before) before) (sym e);
+          row = o ∙ ap (λ b. cond b (rowOf bytes v k (rowRoom before) before) before) (sym e);
         };
       }

@@ -10,6 +10,7 @@ use lib.ListN.{length, getD}
 use Rattle.table.specs.Refusal.{numberOf}
 use Rattle.table.specs.declared.Refusal.{Refusal}
 use Rattle.table.specs.declared.Read.the-variants as read
+use Rattle.runs.specs.declared.Start.{Start}
 use Rattle.wire.specs.Records.{Bytes}
 use Rattle.wire.specs.Reading.{readOf}
 use Rattle.wire.specs.Listing.{Listing}
@@ -43,29 +44,30 @@ pub record Refuses (number : ℕ) (kept : Type 0) (a : List ℕ) : Type 0 where
   pub first : getD a 0 0 ≡ number
   pub refused : 0 < number → (a ≡ four number 0 0 0) × kept
 
--- All four questions accept the bytes as a table with n clocks, L steps and g guards, and refuse what the rows after it say.
+-- All four questions, for every variant of the start, accept the bytes as a table with n clocks, L steps and g guards, and refuse
+-- what the rows after it say.
 pub record AcceptedBy (bytes : List ℕ) (n L g : ℕ) : Type 0 where
   pub read : (a : List ℕ) → ReadSays bytes a → a ≡ four 0 n L g
-  pub rounds : (a : List ℕ) → RoundsSays bytes a → NotRefused a
-  pub plan : (k : ℕ) (before after : Rooms) (a : List ℕ) → PlanSays bytes k before after a
+  pub rounds : (v : Start) (a : List ℕ) → RoundsSays bytes v a → NotRefused a
+  pub plan : (v : Start) (k : ℕ) (before after : Rooms) (a : List ℕ) → PlanSays bytes v k before after a
       → Refuses (planRow n L k before) (after ≡ before) a
-  pub demands : (k : ℕ) (before after : List ℤ) (a : List ℕ) → DemandsSays bytes k before after a
-      → Refuses (demandsRow L k (length (demandsIn bytes k)) (length before)) (after ≡ before) a
+  pub demands : (v : Start) (k : ℕ) (before after : List ℤ) (a : List ℕ) → DemandsSays bytes v k before after a
+      → Refuses (demandsRow L k (length (demandsIn bytes v k)) (length before)) (after ≡ before) a
   -- where no row refuses them, the demands are answered by their number, and stand in the first places of the row
-  pub demanded : (k : ℕ) (before after : List ℤ) (a : List ℕ) → DemandsSays bytes k before after a
-      → demandsRow L k (length (demandsIn bytes k)) (length before) ≡ 0
-      → (a ≡ four 0 (length (demandsIn bytes k)) 0 0) × (after ≡ over (cells (demandsIn bytes k)) before)
+  pub demanded : (v : Start) (k : ℕ) (before after : List ℤ) (a : List ℕ) → DemandsSays bytes v k before after a
+      → demandsRow L k (length (demandsIn bytes v k)) (length before) ≡ 0
+      → (a ≡ four 0 (length (demandsIn bytes v k)) 0 0) × (after ≡ over (cells (demandsIn bytes v k)) before)
 
--- All four questions refuse the bytes for the same fault, of 01's rows 1 to 10 (`readOf`), and change no room.
+-- All four questions, for every variant, refuse the bytes for the same fault, of 01's rows 1 to 10 (`readOf`), and change no room.
 pub record RefusedBy (bytes : List ℕ) : Type 0 where
   pub fault : Refusal
   pub found : readOf bytes ≡ read.Refused fault
   pub number : (1 ≤ numberOf (fault .fault)) × (numberOf (fault .fault) ≤ 10)
   pub read : (a : List ℕ) → ReadSays bytes a → a ≡ refusedNumbers fault
-  pub rounds : (a : List ℕ) → RoundsSays bytes a → a ≡ refusedNumbers fault
-  pub plan : (k : ℕ) (before after : Rooms) (a : List ℕ) → PlanSays bytes k before after a
+  pub rounds : (v : Start) (a : List ℕ) → RoundsSays bytes v a → a ≡ refusedNumbers fault
+  pub plan : (v : Start) (k : ℕ) (before after : Rooms) (a : List ℕ) → PlanSays bytes v k before after a
       → (a ≡ refusedNumbers fault) × (after ≡ before)
-  pub demands : (k : ℕ) (before after : List ℤ) (a : List ℕ) → DemandsSays bytes k before after a
+  pub demands : (v : Start) (k : ℕ) (before after : List ℤ) (a : List ℕ) → DemandsSays bytes v k before after a
       → (a ≡ refusedNumbers fault) × (after ≡ before)
 
 -- The bytes of every legal table are accepted, and all other bytes are refused. Which fault counts: format/specs/FirstFault.antt.

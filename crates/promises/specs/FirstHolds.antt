@@ -15,6 +15,9 @@ use Rattle.table.specs.declared.Fault.the-variants as fault
 use Rattle.table.specs.declared.Refusal.{Refusal}
 use Rattle.table.specs.declared.Read.{Read}
 use Rattle.table.specs.declared.Read.the-variants as read
+use Rattle.runs.specs.declared.Start.{Start}
+use Rattle.runs.specs.Demand.{Starts, startsOf}
+use Rattle.runs.specs.Start.{start-upper}
 use Rattle.wire.specs.Records.{Bytes}
 use Rattle.wire.specs.Reading.{readOf}
 use Rattle.wire.specs.Listing.{Listing, listing}
@@ -61,18 +64,18 @@ plan-told n L k r =
     (told-test admission.Refused Accepted (leb n (length (r .starts))) fault.Starts _ _
     (told-test admission.Refused Accepted (leb (k * L + n + 1) (length (r .loop))) fault.Loop admission.Accepted 0 (passes refl refl))))
 
-answered-first : (n : ℕ) (σ : List Step) (r r′ : plan.Rooms) (o : Outcome) → plan.Answered n σ r r′ o → getD (planNumbers o) 0 0 ≡ 0
-answered-first n σ r r′ (outcome.Found P) h = refl
-answered-first n σ r r′ (outcome.Loop m) h = refl
-answered-first n σ r r′ (outcome.Refused f) h = absurd h
+answered-first : (n : ℕ) (σ : List Step) (D : Starts) (r r′ : plan.Rooms) (o : Outcome) → plan.Answered n σ D r r′ o → getD (planNumbers o) 0 0 ≡ 0
+answered-first n σ D r r′ (outcome.Found P) h = refl
+answered-first n σ D r r′ (outcome.Loop m) h = refl
+answered-first n σ D r r′ (outcome.Refused f) h = absurd h
 
-plan-refuses : (q : Admission) (number n : ℕ) (σ : List Step) (r r′ : plan.Rooms) (o : Outcome)
-    → Told admission.Refused Accepted q number → plan.Meets q n σ r r′ o
+plan-refuses : (q : Admission) (number n : ℕ) (σ : List Step) (D : Starts) (r r′ : plan.Rooms) (o : Outcome)
+    → Told admission.Refused Accepted q number → plan.Meets q n σ D r r′ o
     → Refuses number (r′ ≡ r) (planNumbers o)
-plan-refuses q number n σ r r′ o (fails f e h) m =
-    let told = subst (λ p. plan.Meets p n σ r r′ o) e m in refuses-fault f number (r′ ≡ r) _ h (ap planNumbers (told .0)) (told .1)
-plan-refuses q number n σ r r′ o (passes e h) m =
-    refuses-none number (r′ ≡ r) _ h (answered-first n σ r r′ o (subst (λ p. plan.Meets p n σ r r′ o) e m))
+plan-refuses q number n σ D r r′ o (fails f e h) m =
+    let told = subst (λ p. plan.Meets p n σ D r r′ o) e m in refuses-fault f number (r′ ≡ r) _ h (ap planNumbers (told .0)) (told .1)
+plan-refuses q number n σ D r r′ o (passes e h) m =
+    refuses-none number (r′ ≡ r) _ h (answered-first n σ D r r′ o (subst (λ p. plan.Meets p n σ D r r′ o) e m))
 
 -- ---- demands: a row has four places to a demand
 four-places : (c r : ℕ) → leb c (r / 4) ≡ leb (4 * c) r
@@ -127,43 +130,43 @@ module _ (bytes : List ℕ) (n L g : ℕ) (e : readOf bytes ≡ read.Counted n L
   unfolding plan.askingOf
   asking k r = rw (plan.askingOf, e) refl
 
-  listing-of : (k room : ℕ) → listedOf bytes k room ≡ answerOf L k (length (demandsIn bytes k)) room
+  listing-of : (v : Start) (k room : ℕ) → listedOf bytes v k room ≡ answerOf L k (length (demandsIn bytes v k)) room
   unfolding listedOf
-  listing-of k room = rw (listedOf, e) refl
+  listing-of v k room = rw (listedOf, e) refl
 
-  demands-asked : (k : ℕ) (before : List ℤ)
-      → Told listed.Refused (Wrote (length (demandsIn bytes k))) (listedOf bytes k (rowRoom before))
-      (demandsRow L k (length (demandsIn bytes k)) (length before))
-  demands-asked k before =
+  demands-asked : (v : Start) (k : ℕ) (before : List ℤ)
+      → Told listed.Refused (Wrote (length (demandsIn bytes v k))) (listedOf bytes v k (rowRoom before))
+      (demandsRow L k (length (demandsIn bytes v k)) (length before))
+  demands-asked v k before =
       subst
-      (λ o. Told listed.Refused (Wrote (length (demandsIn bytes k))) o (demandsRow L k (length (demandsIn bytes k)) (length before)))
-      (sym (listing-of k (rowRoom before))) (demands-told L k (length (demandsIn bytes k)) (length before))
+      (λ o. Told listed.Refused (Wrote (length (demandsIn bytes v k))) o (demandsRow L k (length (demandsIn bytes v k)) (length before)))
+      (sym (listing-of v k (rowRoom before))) (demands-told L k (length (demandsIn bytes v k)) (length before))
 
   accepted-by : AcceptedBy bytes n L g
   unfolding rowOf
   accepted-by =
       record {
         read = λ a s. s ∙ ap readNumbers e;
-        rounds = λ a s.
-            let counts : rounds.Counts (clocksOf bytes) (cycleOf bytes) (s .count) =
-            subst (λ q. rounds.Answers q bytes (s .count)) e (s .answers) in
+        rounds = λ v a s.
+            let counts : rounds.Counts (clocksOf bytes) (startsOf v) (cycleOf bytes) (s .count) =
+            subst (λ q. rounds.Answers q bytes v (s .count)) e (s .answers) in
             ap (λ l. getD l 0 0) (s .numbers)
-            ∙ counted-first (s .count) (counts-nothing _ _ (s .count) counts);
-        plan = λ k before after a s.
+            ∙ counted-first (s .count) (counts-nothing _ _ _ (s .count) (start-upper v (clocksOf bytes)) counts);
+        plan = λ v k before after a s.
             subst (Refuses (planRow n L k before) (after ≡ before)) (sym (s .numbers))
-            (plan-refuses (plan.admitRooms n L k before) (planRow n L k before) (clocksOf bytes) (roundsIn bytes k) before after (s .outcome)
+            (plan-refuses (plan.admitRooms n L k before) (planRow n L k before) (clocksOf bytes) (roundsIn bytes k) (startsOf v) before after (s .outcome)
             (plan-told n L k before)
-            (subst (λ q. plan.Meets q (clocksOf bytes) (roundsIn bytes k) before after (s .outcome)) (asking k before) (s .answers .answers)));
-        demands = λ k before after a s.
-            subst (Refuses (demandsRow L k (length (demandsIn bytes k)) (length before)) (after ≡ before)) (sym (s .numbers))
-            (demands-refuses (length (demandsIn bytes k)) (listedOf bytes k (rowRoom before))
-            (demandsRow L k (length (demandsIn bytes k)) (length before)) (cells (demandsIn bytes k)) before after
-            (demands-asked k before) (s .row));
-        demanded = λ k before after a s z.
+            (subst (λ q. plan.Meets q (clocksOf bytes) (roundsIn bytes k) (startsOf v) before after (s .outcome)) (asking k before) (s .answers .answers)));
+        demands = λ v k before after a s.
+            subst (Refuses (demandsRow L k (length (demandsIn bytes v k)) (length before)) (after ≡ before)) (sym (s .numbers))
+            (demands-refuses (length (demandsIn bytes v k)) (listedOf bytes v k (rowRoom before))
+            (demandsRow L k (length (demandsIn bytes v k)) (length before)) (cells (demandsIn bytes v k)) before after
+            (demands-asked v k before) (s .row));
+        demanded = λ v k before after a s z.
             let w =
-            demands-written (length (demandsIn bytes k)) (listedOf bytes k (rowRoom before))
-            (demandsRow L k (length (demandsIn bytes k)) (length before)) (cells (demandsIn bytes k)) before after
-            (demands-asked k before) (s .row) z in
+            demands-written (length (demandsIn bytes v k)) (listedOf bytes v k (rowRoom before))
+            (demandsRow L k (length (demandsIn bytes v k)) (length before)) (cells (demandsIn bytes v k)) before after
+            (demands-asked v k before) (s .row) z in
             (s .numbers ∙ w .0, w .1);
       }
 
@@ -173,9 +176,9 @@ module _ (bytes : List ℕ) (f : Refusal) (e : readOf bytes ≡ read.Refused f) 
   unfolding plan.askingOf
   not-asking k r = rw (plan.askingOf, e) refl
 
-  not-listing : (k room : ℕ) → listedOf bytes k room ≡ listed.Refused f
+  not-listing : (v : Start) (k room : ℕ) → listedOf bytes v k room ≡ listed.Refused f
   unfolding listedOf
-  not-listing k room = rw (listedOf, e) refl
+  not-listing v k room = rw (listedOf, e) refl
 
   refused-by : RefusedBy bytes
   unfolding rowOf
@@ -185,15 +188,15 @@ module _ (bytes : List ℕ) (f : Refusal) (e : readOf bytes ≡ read.Refused f) 
         found = e;
         number = (number-some (f .fault), reader-number bytes f e);
         read = λ a s. s ∙ ap readNumbers e;
-        rounds = λ a s. s .numbers ∙ ap countNumbers (subst (λ q. rounds.Answers q bytes (s .count)) e (s .answers));
-        plan = λ k before after a s.
+        rounds = λ v a s. s .numbers ∙ ap countNumbers (subst (λ q. rounds.Answers q bytes v (s .count)) e (s .answers));
+        plan = λ v k before after a s.
             let m =
-            subst (λ q. plan.Meets q (clocksOf bytes) (roundsIn bytes k) before after (s .outcome)) (not-asking k before)
+            subst (λ q. plan.Meets q (clocksOf bytes) (roundsIn bytes k) (startsOf v) before after (s .outcome)) (not-asking k before)
             (s .answers .answers) in
             (s .numbers ∙ ap planNumbers (m .0), m .1);
-        demands = λ k before after a s. (
-          s .numbers ∙ ap demandsNumbers (not-listing k (rowRoom before)),
-          s .row ∙ ap (λ o. unlessRefused o (cells (demandsIn bytes k)) before) (not-listing k (rowRoom before)),
+        demands = λ v k before after a s. (
+          s .numbers ∙ ap demandsNumbers (not-listing v k (rowRoom before)),
+          s .row ∙ ap (λ o. unlessRefused o (cells (demandsIn bytes v k)) before) (not-listing v k (rowRoom before)),
         );
       }
 

@@ -1,30 +1,36 @@
 -- The second promise holds.
+use mathlib.Core.Path.{subst}
 use mathlib.Core.List.{List}
 use Prim.Native.Nat.{ℕ}
 use native.Mathlib.Omega.{arith}
 use lib.ListN.{getD, take}
-use Rattle.runs.specs.Demand.{anyStarts}
-use Rattle.runs.specs.Allowed.{any-places}
+use Rattle.runs.specs.declared.Start.{Start}
+use Rattle.runs.specs.Demand.{startsOf, Allowed}
+use Rattle.runs.specs.Start.{upper-places, start-upper}
 use Rattle.runs.specs.Refutes.{loop-refutes}
 use Rattle.asking.specs.Rounds.{clocksOf, roundsIn, demandsIn, RunExists, guards-on}
-use Rattle.plan.specs.Answer.{Rooms}
+use Rattle.plan.specs.Answer.{Rooms, startsIn}
 use Rattle.promises.specs.Told.{IsTable, GivesLoop}
 use Rattle.promises.specs.Second.{Second}
-use Rattle.promises.specs.Plans.{plan-given, plan-parts, plan-or-loop}
+use Rattle.promises.specs.Plans.{clocks-are, plan-given, plan-parts, plan-or-loop}
 
-pub loop-none : (bytes : List ℕ) (n L g : ℕ) → IsTable bytes n L g → (k : ℕ) (after : Rooms) (a : List ℕ)
-    → GivesLoop bytes k after a → RunExists bytes k → ⊥
+pub loop-none : (bytes : List ℕ) (n L g : ℕ) → IsTable bytes n L g → (v : Start) (k : ℕ) (after : Rooms) (a : List ℕ)
+    → GivesLoop bytes v k after a → RunExists bytes v k → ⊥
 unfolding demandsIn
-loop-none bytes n L g t k after a l =
-    loop-refutes (clocksOf bytes) (roundsIn bytes k) anyStarts (take (getD a 2 0) (after .loop))
-    (guards-on bytes (t .small) k n L g (t .accepted)) (any-places (clocksOf bytes)) (l .2)
+loop-none bytes n L g t v k after a l =
+    loop-refutes (clocksOf bytes) (roundsIn bytes k) (startsOf v) (take (getD a 2 0) (after .loop))
+    (guards-on bytes (t .small) k n L g (t .accepted)) (upper-places (clocksOf bytes) (startsOf v) (start-upper v (clocksOf bytes)))
+    (l .2)
 
 -- The second promise.
 pub second-holds : Second
-second-holds bytes n L g t k before after a s =
+second-holds bytes n L g t v k before after a s =
     record {
-      parts = λ P h. let e = plan-parts bytes n L g t k before after a s P h in (e, omega arith);
-      run = λ P h. plan-given bytes n L g t k before after a s P h .planned .run;
-      withheld = plan-or-loop bytes n L g t k before after a s;
-      none = loop-none bytes n L g t k after a;
+      parts = λ P h. let e = plan-parts bytes n L g t v k before after a s P h in (e, omega arith);
+      run = λ P h. plan-given bytes n L g t v k before after a s P h .planned .run;
+      allowed = λ P h.
+          subst (λ m. Allowed P (startsOf v) m (startsIn (after .starts))) (clocks-are bytes n L g t)
+          (plan-given bytes n L g t v k before after a s P h .planned .allowed);
+      withheld = plan-or-loop bytes n L g t v k before after a s;
+      none = loop-none bytes n L g t v k after a;
     }

@@ -10,11 +10,12 @@ use native.Mathlib.Numerals.{add-one}
 use lib.Dec.{eqb, eqb·suc-zero}
 use lib.ListN.{getD}
 use Rattle.runs.specs.declared.Demand.{Demand}
-use Rattle.runs.specs.Demand.{plus, startDemands, anyStarts}
+use Rattle.runs.specs.Demand.{plus, Starts, startDemands, anyStarts}
+use Rattle.runs.specs.Start.{Upper}
 use Rattle.sides.specs.Tight.{keyDemand, keyDemands, key-demands-listed}
 use Rattle.last_resets.specs.Distance.{lastOf}
-use Rattle.sweeps.specs.Order.{cell, sideOf, side-none, side-more, forthAt, forthOf, forth-none, forth-more, backOf, sweepOf}
-use Rattle.sweeps.specs.Ends.{last-in, back-ends, start-listed}
+use Rattle.sweeps.specs.Order.{cell, sideOf, side-none, side-more, forthAt, forthOf, forth-none, forth-more, backOf, partnersFrom, sweepOf}
+use Rattle.sweeps.specs.Ends.{last-in, back-ends, partners-ends, start-listed}
 use Rattle.paths.specs.Constraint.{Constraint}
 use Rattle.checks.specs.InParts.{inParts, allInParts}
 use Rattle.readout.specs.LeastStart.{lag, startFrom, leastStart, start-append, start-none}
@@ -119,11 +120,19 @@ module _ (P K : ℕ) (x : ℕ → ℕ) (j : ℕ) where
             go : (d : Demand) × List·Memᴰ d (startDemands K anyStarts a m) × (inParts P d ≡ c) → lag x c ≡ 0
             go d = let w = start-listed K a m (d .0) (d .1) in rw (← d .2, w .2) (omega arith)
 
+    -- The partners end at the start, so they ask nothing of it either.
+    partners-none : (D : Starts) → Upper n D → (r : ℕ) → 0 < j → raisedBy (partnersFrom K D 1 n) r ≡ r
+    partners-none D u r p =
+        raised-other (partnersFrom K D 1 n) r
+        (λ d m e. absurd (omega (arith, e, partners-ends K n D u 1 n (omega arith) (omega arith) d m .1)))
+
     -- So the smallest start for all demands of a pass is that for those forth.
-    pub least-forth : (up : List ℕ) → 0 < j
-        → leastStart x (allInParts P (sweepOf low up far L n K)) (K + j) ≡ raisedBy (forthOf low far L n K 0 K) 0
-    least-forth up p =
-        raised-append (forthOf low far L n K 0 K) (backOf up far L n K K ++ startDemands K anyStarts 1 n) 0
+    pub least-forth : (up : List ℕ) (D : Starts) → Upper n D → 0 < j
+        → leastStart x (allInParts P (sweepOf low up far D L n K)) (K + j) ≡ raisedBy (forthOf low far L n K 0 K) 0
+    least-forth up D u p =
+        raised-append (partnersFrom K D 1 n) (forthOf low far L n K 0 K ++ (backOf up far L n K K ++ startDemands K anyStarts 1 n)) 0
+        ∙ raised-append (forthOf low far L n K 0 K) (backOf up far L n K K ++ startDemands K anyStarts 1 n) _
         ∙ raised-append (backOf up far L n K K) (startDemands K anyStarts 1 n) _
         ∙ starts-none 1 n _
         ∙ back-none up _ p
+        ∙ ap (raisedBy (forthOf low far L n K 0 K)) (partners-none D u 0 p)

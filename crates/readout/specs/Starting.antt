@@ -11,7 +11,7 @@ use borrow.Author.Tests.{eq-eqb}
 use lib.Dec.{eqb}
 use lib.ListN.{length, getD}
 use Rattle.runs.specs.declared.Demand.{Demand}
-use Rattle.runs.specs.Parts.{bit}
+use Rattle.runs.specs.Parts.{bit, bit-small}
 use Rattle.sides.specs.Sides.{none}
 use Rattle.sides.specs.Tight.{keyDemand, keyDemands, key-demands-some, key-demands-none}
 use Rattle.last_resets.specs.Distance.{lastOf}
@@ -23,10 +23,6 @@ use Rattle.readout.specs.LeastStart.{lag, raised, startFrom}
 use Rattle.readout.specs.OneClock.{raisedBy, raised-nil, key-other, forth-step}
 
 -- ---- one key
-bit-small : (b : Bool) → bit b ≤ 1
-bit-small true = omega arith
-bit-small false = omega arith
-
 -- What is asked of the numbers at step i: a clock, and a time for each moment.
 pub record Raisable (i j K P : ℕ) (time : List ℕ) : Type 0 where
   pub some : 0 < j

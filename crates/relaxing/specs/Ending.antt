@@ -57,13 +57,13 @@ module _ (R : Rows) (s₀ : State) (z : Sound R) (b : Begins (moments R) (R .tot
       go : (d : Demand) × List·Memᴰ d (sweep R) × (inParts N d ≡ c) → c .gain ≤ unit
       go d = rw (← d .2) (z .slight (d .0) (d .1) .gain)
 
-  few-checks : length cs ≤ 13318
+  few-checks : length cs ≤ 13324
   unfolding constraintsOf
   few-checks =
       omega (
         arith,
         length-parts N (sweep R),
-        sweep-few (R .low) (R .up) (R .far) (R .steps) (R .clocks) (R .total) (z .clocks) (z .few),
+        sweep-few (R .low) (R .up) (R .far) (R .start) (R .steps) (R .clocks) (R .total) (z .clocks) (z .few),
       )
 
   low : Under N (4001 * 1031) (s₀ .time)
@@ -74,10 +74,10 @@ module _ (R : Rows) (s₀ : State) (z : Sound R) (b : Begins (moments R) (R .tot
       go (no l) = omega (arith, b .past v (omega arith) w)
 
   -- the number of checks, and the times after them
-  checks : (m : ℕ) → m ≤ N → m * length cs ≤ 1031 * 13318
+  checks : (m : ℕ) → m ≤ N → m * length cs ≤ 1031 * 13324
   checks m l =
       let few : m ≤ 1031 = omega (arith, l, sound-moments R z) in
-      omega (arith, mul-le-mul-left m few-checks, mul-le-mul-right 13318 few)
+      omega (arith, mul-le-mul-left m few-checks, mul-le-mul-right 13324 few)
 
   under : (m : ℕ) → m ≤ N → Under N (2 ^ 62) (passesOf cs m s₀ .time)
   under m l v w =

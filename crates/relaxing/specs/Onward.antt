@@ -1,12 +1,14 @@
--- One way forth settles what it checks.
+-- The partners and one way forth settle what they check.
 use mathlib.Core.Path.{_≡_, refl, sym, ap, subst, _∙_}
 use mathlib.Core.Logic.{_⊎_, inl, inr, _≢_, ⊎-elim}
 use mathlib.Core.List.{List, [], _∷_, _++_, List·Memᴰ, Memᴰ·of-map, map-append}
 use Prim.Native.Nat.{ℕ, zero, suc, _+_, _≤_, _<_}
 use native.Mathlib.Omega.{arith}
 use Rattle.runs.specs.declared.Demand.{Demand}
-use Rattle.sweeps.specs.Order.{forthAt, forthOf, forth-none, forth-more}
-use Rattle.sweeps.specs.Ends.{Earlier, forth-at-ends, forth-raises}
+use Rattle.runs.specs.Demand.{Starts}
+use Rattle.runs.specs.Start.{Upper}
+use Rattle.sweeps.specs.Order.{forthAt, forthOf, forth-none, forth-more, partnersFrom}
+use Rattle.sweeps.specs.Ends.{Earlier, forth-at-ends, forth-raises, ToStart, partners-ends}
 use Rattle.paths.specs.Constraint.{Constraint}
 use Rattle.paths.specs.Onward.{Onward, none, onward-all, onward-append}
 use Rattle.checks.specs.InParts.{inParts, allInParts}
@@ -38,7 +40,7 @@ module _ (P : ℕ) where
     apart i a b (inl l) p q e = omega arith
     apart i a b (inr l) p q e = omega arith
 
-    pub forth-onward : (i m : ℕ) → i + m ≤ K → Onward (allInParts P (forthOf low far L n K i m))
+    forth-onward : (i m : ℕ) → i + m ≤ K → Onward (allInParts P (forthOf low far L n K i m))
     forth-onward i zero l = subst (λ ds. Onward (allInParts P ds)) (sym (forth-none low far L n K i)) none
     forth-onward i (suc m) l =
         subst (λ ds. Onward (allInParts P ds)) (sym (forth-more low far L n K i m))
@@ -50,3 +52,14 @@ module _ (P : ℕ) where
         (λ c d k j.
         apart i (c .to) (d .from) (forth-at-ends low far L n K i c k .1)
         (omega (arith, forth-raises low far L n K (suc i) m d j .0)) (omega (arith, forth-raises low far L n K (suc i) m d j .1))))
+
+    -- The partners raise the last resets before the start, and the way forth later moments: nothing raises the start, where they end.
+    pub way-onward : (D : Starts) → Upper n D → Onward (allInParts P (partnersFrom K D 1 n ++ forthOf low far L n K 0 K))
+    way-onward D u =
+        parts-append (partnersFrom K D 1 n) (forthOf low far L n K 0 K)
+        (parts-onward (partnersFrom K D 1 n) (λ c d k j e. omega (arith, ends c k .1, ends d j .0)))
+        (forth-onward 0 K (omega arith))
+        (λ c d k j e. omega (arith, ends c k .1, forth-raises low far L n K 0 K d j .0))
+      where
+        ends : (d : Demand) → List·Memᴰ d (partnersFrom K D 1 n) → ToStart K d
+        ends = partners-ends K n D u 1 n (omega arith) (omega arith)

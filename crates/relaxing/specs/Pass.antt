@@ -1,15 +1,16 @@
--- A pass: forth over all steps, back over all steps, then the starts. Where the way back raised nothing, everything holds.
+-- A pass: the partners, forth over all steps, back over all steps, then the starts. Where the way back raised nothing, everything holds.
 use mathlib.Core.Path.{_≡_, refl, sym, ap, subst, _∙_}
 use mathlib.Core.Logic.{_⊎_, inl, inr, ⊎-elim}
 use mathlib.Core.Bool.{Bool, true, false, _||_, or-true}
-use mathlib.Core.List.{List, [], _∷_, _++_, List·Memᴰ, Memᴰ·of-map, List·Memᴰ·append-cases, map-append}
+use mathlib.Core.List.{List, [], _∷_, _++_, List·Memᴰ, Memᴰ·of-map, List·Memᴰ·append-cases, map-append, append-assoc}
 use Prim.Native.Nat.{ℕ, _+_, _*_, _≤_, _<_, _^_}
 use native.Mathlib.Omega.{arith}
 use lib.ListN.{length, length-append}
 use Rattle.runs.specs.declared.Demand.{Demand}
-use Rattle.runs.specs.Demand.{startDemands, anyStarts}
+use Rattle.runs.specs.Demand.{startDemands, anyStarts, startsOf}
+use Rattle.runs.specs.Start.{start-upper}
 use Rattle.runs.specs.Tools.{Every, every-append}
-use Rattle.sweeps.specs.Order.{forthOf, backOf, returnOf, sweepOf}
+use Rattle.sweeps.specs.Order.{forthOf, backOf, partnersFrom}
 use Rattle.sweeps.specs.Number.{sweep-few}
 use Rattle.paths.specs.Places.{at}
 use Rattle.paths.specs.Constraint.{Constraint, All, Fits}
@@ -20,7 +21,7 @@ use Rattle.paths.specs.Onward.{onward-settles}
 use Rattle.checks.specs.InParts.{inParts, allInParts}
 use Rattle.checks.specs.Checks.{Slight, unit, Checkable, Checked, length-parts, checked-append, checkable-left, checkable-right}
 use Rattle.relaxing.specs.Rows.{Rows, sweep, moments, constraintsOf, Sound}
-use Rattle.relaxing.specs.Onward.{forth-onward}
+use Rattle.relaxing.specs.Onward.{way-onward}
 
 -- What a pass asks.
 pub record Passable (R : Rows) (s : State) (q : ℕ) : Type 0 where
@@ -55,6 +56,9 @@ module _ (R : Rows) (q : ℕ) (s : State) (p : Passable R s q) where
   abbrev P : ℕ
   P = moments R
 
+  abbrev partners : List Demand
+  partners = partnersFrom (R .total) (startsOf (R .start)) 1 (R .clocks)
+
   abbrev forth : List Demand
   forth = forthOf (R .low) (R .far) (R .steps) (R .clocks) (R .total) 0 (R .total)
 
@@ -64,10 +68,10 @@ module _ (R : Rows) (q : ℕ) (s : State) (p : Passable R s q) where
   abbrev starts : List Demand
   starts = startDemands (R .total) anyStarts 1 (R .clocks)
 
-  few : length (sweep R) ≤ 13318
-  few = sweep-few (R .low) (R .up) (R .far) (R .steps) (R .clocks) (R .total) (p .sound .clocks) (p .sound .few)
+  few : length (sweep R) ≤ 13324
+  few = sweep-few (R .low) (R .up) (R .far) (R .start) (R .steps) (R .clocks) (R .total) (p .sound .clocks) (p .sound .few)
 
-  able : Checkable P (forth ++ (back ++ starts)) s q
+  able : Checkable P (partners ++ (forth ++ (back ++ starts))) s q
   able =
       record {
         slight = p .sound .slight;
@@ -78,89 +82,110 @@ module _ (R : Rows) (q : ℕ) (s : State) (p : Passable R s q) where
         stamp = omega (arith, p .stamp, few);
       }
 
-  pub forth-able : Checkable P forth s q
-  forth-able = checkable-left P forth (back ++ starts) s q able
+  pub partners-able : Checkable P partners s q
+  partners-able = checkable-left P partners (forth ++ (back ++ starts)) s q able
 
-  module _ (s₁ : State) (h₁ : Bool) (q₁ : ℕ) (c₁ : Checked P forth false q s s₁ h₁ q₁) where
-    return-able : Checkable P (back ++ starts) s₁ q₁
-    return-able = checkable-right P forth (back ++ starts) false q s s₁ h₁ q₁ c₁ able
+  module _ (s₀ : State) (h₀ : Bool) (q₀ : ℕ) (c₀ : Checked P partners false q s s₀ h₀ q₀) where
+    later-able : Checkable P (forth ++ (back ++ starts)) s₀ q₀
+    later-able = checkable-right P partners (forth ++ (back ++ starts)) false q s s₀ h₀ q₀ c₀ able
 
-    pub back-able : Checkable P back s₁ q₁
-    back-able = checkable-left P back starts s₁ q₁ return-able
+    pub forth-able : Checkable P forth s₀ q₀
+    forth-able = checkable-left P forth (back ++ starts) s₀ q₀ later-able
 
-    module _ (s₂ : State) (h₂ : Bool) (q₂ : ℕ) (c₂ : Checked P back false q₁ s₁ s₂ h₂ q₂) where
-      pub starts-able : Checkable P starts s₂ q₂
-      starts-able = checkable-right P back starts false q₁ s₁ s₂ h₂ q₂ c₂ return-able
+    module _ (s₁ : State) (h₁ : Bool) (q₁ : ℕ) (c₁ : Checked P forth h₀ q₀ s₀ s₁ h₁ q₁) where
+      return-able : Checkable P (back ++ starts) s₁ q₁
+      return-able = checkable-right P forth (back ++ starts) h₀ q₀ s₀ s₁ h₁ q₁ c₁ later-able
 
-      module _ (s₃ : State) (h₃ : Bool) (q₃ : ℕ) (c₃ : Checked P starts h₂ q₂ s₂ s₃ h₃ q₃) where
-        F : List Constraint
-        F = allInParts P forth
+      pub back-able : Checkable P back s₁ q₁
+      back-able = checkable-left P back starts s₁ q₁ return-able
 
-        B : List Constraint
-        B = allInParts P (back ++ starts)
+      module _ (s₂ : State) (h₂ : Bool) (q₂ : ℕ) (c₂ : Checked P back false q₁ s₁ s₂ h₂ q₂) where
+        pub starts-able : Checkable P starts s₂ q₂
+        starts-able = checkable-right P back starts false q₁ s₁ s₂ h₂ q₂ c₂ return-able
 
-        both : Checked P (back ++ starts) false q₁ s₁ s₃ h₃ q₃
-        both = checked-append P back starts false q₁ s₁ s₂ h₂ q₂ c₂ s₃ h₃ q₃ c₃
+        module _ (s₃ : State) (h₃ : Bool) (q₃ : ℕ) (c₃ : Checked P starts h₂ q₂ s₂ s₃ h₃ q₃) where
+          F : List Constraint
+          F = allInParts P (partners ++ forth)
 
-        parts : allInParts P (sweep R) ≡ F ++ B
-        unfolding F B
-        parts = map-append (inParts P) forth (back ++ starts)
+          B : List Constraint
+          B = allInParts P (back ++ starts)
 
-        next : q₁ ≡ q + length F
-        unfolding F
-        next = omega (arith, c₁ .stamp, length-parts P forth)
+          -- the partners and the way forth, then the others
+          onward : Checked P (partners ++ forth) false q s s₁ h₁ q₁
+          onward = checked-append P partners forth false q s s₀ h₀ q₀ c₀ s₁ h₁ q₁ c₁
 
-        gone : s₁ ≡ passOf F q s
-        unfolding F
-        gone = c₁ .after
+          return : Checked P (back ++ starts) false q₁ s₁ s₃ h₃ q₃
+          return = checked-append P back starts false q₁ s₁ s₂ h₂ q₂ c₂ s₃ h₃ q₃ c₃
 
-        come : s₃ ≡ passOf B q₁ s₁
-        unfolding B
-        come = both .after
+          parts : allInParts P (sweep R) ≡ F ++ B
+          unfolding F B
+          parts =
+              ap (allInParts P) (sym (append-assoc partners forth (back ++ starts)))
+              ∙ map-append (inParts P) (partners ++ forth) (back ++ starts)
 
-        after : s₃ ≡ passOf (F ++ B) q s
-        after =
-            come
-            ∙ ap (λ k. passOf B k s₁) next
-            ∙ ap (λ x. passOf B (q + length F) x) gone
-            ∙ sym (pass-append F B q s)
+          next : q₁ ≡ q + length F
+          unfolding F
+          next = omega (arith, onward .stamp, length-parts P (partners ++ forth))
 
-        hit : hitsOf B (q + length F) (passOf F q s) ≡ h₃
-        unfolding B
-        hit =
-            ap (λ x. hitsOf B (q + length F) x) (sym gone)
-            ∙ ap (λ k. hitsOf B k s₁) (sym next)
-            ∙ sym (both .hits)
+          gone : s₁ ≡ passOf F q s
+          unfolding F
+          gone = onward .after
 
-        loud : h₃ ≡ true → hitsOf (F ++ B) q s ≡ true
-        loud e =
-            hits-append F B q s ∙ ap (λ b. hitsOf F q s || b) (hit ∙ e) ∙ or-true (hitsOf F q s)
+          come : s₃ ≡ passOf B q₁ s₁
+          unfolding B
+          come = return .after
 
-        holds : h₃ ≡ false → All (F ++ B) (at (s₃ .time))
-        unfolding F
-        holds e c m =
-            let k = quiet B (q + length F) (passOf F q s) (hit ∙ e) in
-            let same : s₃ ≡ passOf F q s = after ∙ pass-append F B q s ∙ k .kept in
-            rw same
-            (⊎-elim
-            (onward-settles P F q s (slight-fits P forth (every-append (Slight P) forth (back ++ starts) .0 (p .sound .slight) .0))
-            (p .room) (forth-onward P (R .low) (R .far) (R .steps) (R .clocks) (R .total) 0 (R .total) (omega arith)) c)
-            (k .holds c)
-            (List·Memᴰ·append-cases F m))
+          after : s₃ ≡ passOf (F ++ B) q s
+          after =
+              come
+              ∙ ap (λ k. passOf B k s₁) next
+              ∙ ap (λ x. passOf B (q + length F) x) gone
+              ∙ sym (pass-append F B q s)
 
-        pub pass-swept : Swept R q s s₃ h₃ q₃
-        unfolding constraintsOf
-        pass-swept =
-            record {
-              after = after ∙ ap (λ cs. passOf cs q s) (sym parts);
-              stamp =
-                  omega (
-                    arith,
-                    both .stamp,
-                    c₁ .stamp,
-                    length-parts P (sweep R),
-                    length-append forth (back ++ starts),
-                  );
-              loud = λ e. ap (λ cs. hitsOf cs q s) parts ∙ loud e;
-              quiet = λ e. subst (λ cs. All cs (at (s₃ .time))) (sym parts) (holds e);
-            }
+          hit : hitsOf B (q + length F) (passOf F q s) ≡ h₃
+          unfolding B
+          hit =
+              ap (λ x. hitsOf B (q + length F) x) (sym gone)
+              ∙ ap (λ k. hitsOf B k s₁) (sym next)
+              ∙ sym (return .hits)
+
+          loud : h₃ ≡ true → hitsOf (F ++ B) q s ≡ true
+          loud e =
+              hits-append F B q s ∙ ap (λ b. hitsOf F q s || b) (hit ∙ e) ∙ or-true (hitsOf F q s)
+
+          slight : Every (Slight P) (partners ++ forth)
+          slight =
+              every-append (Slight P) (partners ++ forth) (back ++ starts) .0
+              (subst (Every (Slight P)) (sym (append-assoc partners forth (back ++ starts))) (p .sound .slight)) .0
+
+          holds : h₃ ≡ false → All (F ++ B) (at (s₃ .time))
+          unfolding F
+          holds e c m =
+              let k = quiet B (q + length F) (passOf F q s) (hit ∙ e) in
+              let same : s₃ ≡ passOf F q s = after ∙ pass-append F B q s ∙ k .kept in
+              rw same
+              (⊎-elim
+              (onward-settles P F q s (slight-fits P (partners ++ forth) slight) (p .room)
+              (way-onward P (R .low) (R .far) (R .steps) (R .clocks) (R .total) (startsOf (R .start)) (start-upper (R .start) (R .clocks)))
+              c)
+              (k .holds c)
+              (List·Memᴰ·append-cases F m))
+
+          pub pass-swept : Swept R q s s₃ h₃ q₃
+          unfolding constraintsOf
+          pass-swept =
+              record {
+                after = after ∙ ap (λ cs. passOf cs q s) (sym parts);
+                stamp =
+                    omega (
+                      arith,
+                      return .stamp,
+                      onward .stamp,
+                      length-parts P (sweep R),
+                      length-append partners (forth ++ (back ++ starts)),
+                      length-append forth (back ++ starts),
+                      length-append partners forth,
+                    );
+                loud = λ e. ap (λ cs. hitsOf cs q s) parts ∙ loud e;
+                quiet = λ e. subst (λ cs. All cs (at (s₃ .time))) (sym parts) (holds e);
+              }

@@ -5,6 +5,8 @@ use Prim.Native.Nat.{ℕ, _+_, _%_, _≤_, _<_}
 use native.Mathlib.Omega.{arith}
 use lib.ListN.{length}
 use Rattle.runs.specs.declared.Demand.{Demand}
+use Rattle.runs.specs.declared.Start.{Start}
+use Rattle.runs.specs.Demand.{startsOf}
 use Rattle.runs.specs.Tools.{Every}
 use Rattle.sweeps.specs.Order.{sweepOf}
 use Rattle.paths.specs.Constraint.{Constraint}
@@ -13,21 +15,23 @@ use Rattle.checks.specs.Checks.{Slight}
 use Rattle.ways.specs.Forth.{Going}
 
 -- With a place 7 * s + j for step s of a round and clock j: the keys of the tightest guards from below and from above, and the
--- distances to the last resets. Rounds have so many steps and clocks, and all rounds together `total` steps.
+-- distances to the last resets. Rounds have so many steps and clocks, and all rounds together `total` steps; they start as the variant
+-- says.
 pub record Rows : Type 0 where
   pub low : List ℕ
   pub up : List ℕ
   pub far : List ℕ
+  pub start : Start
   pub steps : ℕ
   pub clocks : ℕ
   pub total : ℕ
 
-abbrev pub rows : List ℕ → List ℕ → List ℕ → ℕ → ℕ → ℕ → Rows
-rows low up far L n K = record { low = low; up = up; far = far; steps = L; clocks = n; total = K }
+abbrev pub rows : List ℕ → List ℕ → List ℕ → Start → ℕ → ℕ → ℕ → Rows
+rows low up far v L n K = record { low = low; up = up; far = far; start = v; steps = L; clocks = n; total = K }
 
 -- the demands of a pass, in its order
 abbrev pub sweep : Rows → List Demand
-sweep R = sweepOf (R .low) (R .up) (R .far) (R .steps) (R .clocks) (R .total)
+sweep R = sweepOf (R .low) (R .up) (R .far) (startsOf (R .start)) (R .steps) (R .clocks) (R .total)
 
 -- the number of moments, which is also the number of parts to a tick
 abbrev pub moments : Rows → ℕ

@@ -1,7 +1,9 @@
 // The difference constraints of k rounds, checked pass after pass over lent times.
 use checks::Sweep;
 use paths::find_cycle;
+use runs::Start;
 use ways::back;
+use ways::check_partners;
 use ways::check_starts;
 use ways::forth;
 ghost use Rattle.paths.specs.State.{state};
@@ -10,12 +12,13 @@ ghost use Rattle.relaxing.specs.Pass.{Passable, Swept};
 ghost use Rattle.relaxing.specs.Passes.{Ended};
 ghost use Rattle.relaxing.specs.Ending.{Ready};
 
-// A check of each demand, the first with the stamp q: forth, then back and the starts. Whether the way back has raised a time; if not,
-// all demands hold, since the way forth leaves its own satisfied.
+// A check of each demand, the first with the stamp q: the partners, forth, then back and the starts. Whether the way back has raised a
+// time; if not, all demands hold, since the partners and the way forth leave their own satisfied.
 fn pass(
     low: &[u64],
     up: &[u64],
     far: &[usize],
+    start: Start,
     steps: usize,
     clocks: usize,
     total: usize,
@@ -24,8 +27,8 @@ fn pass(
     stamp: &mut [u64],
     q: u64,
 ) -> Sweep
-    requires { ⌜ Passable (rows (now low) (now up) (now far) steps clocks total) (state (now time) (now parent) (now stamp)) q ⌝ }
-    ensures { λ r. ⌜ Swept (rows (now (low .entry)) (now (up .entry)) (now (far .entry)) steps clocks total) q
+    requires { ⌜ Passable (rows (now low) (now up) (now far) start steps clocks total) (state (now time) (now parent) (now stamp)) q ⌝ }
+    ensures { λ r. ⌜ Swept (rows (now (low .entry)) (now (up .entry)) (now (far .entry)) start steps clocks total) q
         (state (now (time .entry)) (now (parent .entry)) (now (stamp .entry)))
         (state (now (time .exit)) (now (parent .exit)) (now (stamp .exit))) (r .raised) (r .stamp) ⌝ }
 {
@@ -34,6 +37,7 @@ fn pass(
         raised: false,
         stamp: q,
     };
+    let started = check_partners(start, total, clocks, parts, time, parent, stamp, begun);
     let gone = forth(
         low,
         far,
@@ -44,7 +48,7 @@ fn pass(
         time,
         parent,
         stamp,
-        begun,
+        started,
     );
     let turned = Sweep {
         raised: false,
@@ -71,6 +75,7 @@ pub fn passes(
     low: &[u64],
     up: &[u64],
     far: &[usize],
+    start: Start,
     steps: usize,
     clocks: usize,
     total: usize,
@@ -79,9 +84,9 @@ pub fn passes(
     stamp: &mut [u64],
     marks: &mut [u64],
 ) -> usize
-    requires { ⌜ Ready (rows (now low) (now up) (now far) steps clocks total) (state (now time) (now parent) (now stamp)) (now marks) ⌝ }
-    ensures { λ r. ⌜ Ended (moments (rows (now (low .entry)) (now (up .entry)) (now (far .entry)) steps clocks total))
-        (constraintsOf (rows (now (low .entry)) (now (up .entry)) (now (far .entry)) steps clocks total))
+    requires { ⌜ Ready (rows (now low) (now up) (now far) start steps clocks total) (state (now time) (now parent) (now stamp)) (now marks) ⌝ }
+    ensures { λ r. ⌜ Ended (moments (rows (now (low .entry)) (now (up .entry)) (now (far .entry)) start steps clocks total))
+        (constraintsOf (rows (now (low .entry)) (now (up .entry)) (now (far .entry)) start steps clocks total))
         (state (now (time .entry)) (now (parent .entry)) (now (stamp .entry)))
         (state (now (time .exit)) (now (parent .exit)) (now (stamp .exit))) r ⌝ }
 {
@@ -89,7 +94,19 @@ pub fn passes(
     let mut q: u64 = 1;
     let mut m: usize = 0;
     while m < n {
-        let swept = pass(low, up, far, steps, clocks, total, time, parent, stamp, q);
+        let swept = pass(
+            low,
+            up,
+            far,
+            start,
+            steps,
+            clocks,
+            total,
+            time,
+            parent,
+            stamp,
+            q,
+        );
         if !swept.raised {
             return n;
         }

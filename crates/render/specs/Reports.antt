@@ -6,6 +6,8 @@ use lib.ListN.{length, drop}
 use Rattle.table.specs.declared.Read.{Read}
 use Rattle.table.specs.declared.Read.the-variants as read
 use Rattle.wire.specs.Reading.{readOf}
+use Rattle.runs.specs.declared.Start.the-variants.{LogIn}
+use Rattle.runs.specs.Demand.{startsOf}
 use Rattle.asking.specs.Rounds.{clocksOf, cycleOf}
 use Rattle.rounds.specs.declared.Count.{Count}
 use Rattle.rounds.specs.Answer.{Counts}
@@ -22,13 +24,13 @@ restLines n L (suc k) t s = planLines (suc k * L + n + 1) n L (suc k * L) t s
 unfoldable pub reportOf : ℕ → ℕ → ℕ → Count → (ℕ → ℕ) → (ℕ → ℕ) → List ℕ
 reportOf n L g r t s = countedLine n L g ++ countLine r ++ restLines n L (plannedOf r) t s
 
--- A text reports on accepted bytes, with n clocks, L steps and g guards: the count is that of the table they write down,
+-- A text reports on accepted bytes, with n clocks, L steps and g guards: the count is that of the table they write down, by log-in,
 -- and where rounds are planned the moments and starts are their plan.
 pub record Tells (bytes : List ℕ) (n L g : ℕ) (text : List ℕ) : Type 0 where
   pub count : Count
   pub moments : ℕ → ℕ
   pub starts : ℕ → ℕ
-  pub counts : Counts (clocksOf bytes) (cycleOf bytes) count
+  pub counts : Counts (clocksOf bytes) (startsOf LogIn) (cycleOf bytes) count
   pub planned : 1 ≤ plannedOf count → PlannedIn bytes n L (plannedOf count) moments starts
   pub lines : text ≡ reportOf n L g count moments starts
 

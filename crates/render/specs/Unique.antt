@@ -9,8 +9,10 @@ use Rattle.table.specs.declared.Read.{Read}
 use Rattle.table.specs.declared.Read.the-variants as read
 use Rattle.wire.specs.Reading.{readOf}
 use Rattle.wire.specs.Records.{Bytes}
-use Rattle.asking.specs.Rounds.{roundsIn}
-use Rattle.runs.specs.Demand.{anyStarts}
+use Rattle.asking.specs.Rounds.{clocksOf, roundsIn}
+use Rattle.runs.specs.declared.Start.the-variants.{LogIn}
+use Rattle.runs.specs.Demand.{startsOf}
+use Rattle.runs.specs.Start.{start-upper}
 use Rattle.rounds.specs.declared.Count.{Count}
 use Rattle.rounds.specs.One.{counts-unique}
 use Rattle.plan.specs.Same.{planned-unique}
@@ -28,7 +30,7 @@ module _ (bytes : List ℕ) (n L : ℕ) (a : Tabled bytes n L) where
       plan-lines-same (k * L + n + 1) n L (k * L) t u s r (λ i h l. same .0 i (omega (arith, a .size k))) (same .1)
     where
       same : ((i : ℕ) → i ≤ length (roundsIn bytes k) → t i ≡ u i) × ((j : ℕ) → 0 < j → j ≤ n → s j ≡ r j)
-      same = planned-unique (k * L + n + 1) n (roundsIn bytes k) anyStarts (a .asked k) t s u r p q
+      same = planned-unique (k * L + n + 1) n (roundsIn bytes k) (startsOf LogIn) (a .asked k) t s u r p q
 
   rest-same : (k : ℕ) (t s u r : ℕ → ℕ) → (1 ≤ k → PlannedIn bytes n L k t s) → (1 ≤ k → PlannedIn bytes n L k u r)
       → restLines n L k t s ≡ restLines n L k u r
@@ -45,7 +47,7 @@ module _ (bytes : List ℕ) (n L : ℕ) (a : Tabled bytes n L) where
       ∙ sym (y .lines)
     where
       one : x .count ≡ y .count
-      one = counts-unique _ _ (x .count) (y .count) (x .counts) (y .counts)
+      one = counts-unique _ _ _ (x .count) (y .count) (start-upper LogIn (clocksOf bytes)) (x .counts) (y .counts)
 
       rest : restLines n L (plannedOf (x .count)) (x .moments) (x .starts)
           ≡ restLines n L (plannedOf (x .count)) (y .moments) (y .starts)

@@ -12,7 +12,8 @@ use Rattle.table.specs.declared.Read.the-variants as read
 use Rattle.text.specs.Over.{Written, written-then, written-as}
 use Rattle.wire.specs.Reading.{readOf}
 use Rattle.asking.specs.Rounds.{clocksOf, cycleOf, roundsIn}
-use Rattle.runs.specs.Demand.{anyStarts, Exists}
+use Rattle.runs.specs.declared.Start.the-variants.{LogIn}
+use Rattle.runs.specs.Demand.{startsOf, Exists}
 use Rattle.rounds.specs.declared.Count.{Count}
 use Rattle.rounds.specs.declared.Count.the-variants.{Finite, Endless, Refused}
 use Rattle.rounds.specs.Answer.{Allows, Counts, Answers}
@@ -41,13 +42,13 @@ planned-allowed Endless some = (omega arith, tt)
 planned-allowed (Refused f) some = absurd (omega arith)
 
 pub plannable : (bytes : List ℕ) (n L : ℕ) → Tabled bytes n L → (r : Count)
-    → Counts (clocksOf bytes) (cycleOf bytes) r → (k : ℕ) → k ≡ plannedOf r → 1 ≤ k → Plannable bytes n L k
+    → Counts (clocksOf bytes) (startsOf LogIn) (cycleOf bytes) r → (k : ℕ) → k ≡ plannedOf r → 1 ≤ k → Plannable bytes n L k
 plannable bytes n L a r c k e some =
     record {
       table = a;
       some = some;
       few = h .0;
-      exists = subst (λ (m : ℕ). Exists m anyStarts (roundsIn bytes k)) (a .clocks) (c .runs k .1 (h .1));
+      exists = subst (λ (m : ℕ). Exists m (startsOf LogIn) (roundsIn bytes k)) (a .clocks) (c .runs k .1 (h .1));
     }
   where
     h : (k ≤ 2) × Allows r k
@@ -66,11 +67,11 @@ rest-some n L (suc k) t s h = refl
 
 -- ---- an accepted table
 module _ (bytes : List ℕ) (n L g : ℕ) (accepted : readOf bytes ≡ read.Counted n L g) where
-  pub accepted-counts : (r : Count) → Answers (readOf bytes) bytes r
-      → Counts (clocksOf bytes) (cycleOf bytes) r
-  accepted-counts r a = subst (λ (q : Read). Answers q bytes r) accepted a
+  pub accepted-counts : (r : Count) → Answers (readOf bytes) bytes LogIn r
+      → Counts (clocksOf bytes) (startsOf LogIn) (cycleOf bytes) r
+  accepted-counts r a = subst (λ (q : Read). Answers q bytes LogIn r) accepted a
 
-  module _ (r : Count) (answers : Answers (readOf bytes) bytes r) (k : ℕ) (rounds : k ≡ plannedOf r) where
+  module _ (r : Count) (answers : Answers (readOf bytes) bytes LogIn r) (k : ℕ) (rounds : k ≡ plannedOf r) where
     -- a text that reports the count and a plan, if rounds are planned
     tells : (t s : ℕ → ℕ) → (1 ≤ k → PlannedIn bytes n L k t s) → Tells bytes n L g (reportOf n L g r t s)
     tells t s p = record {

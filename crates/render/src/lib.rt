@@ -1,7 +1,8 @@
-// The report on a table, as text. Each part is written from a place on, and gives the place after it.
+// The report on a table, as text: its counts and its plan are by log-in. Each part is written from a place on, and gives the place after it.
 use count_lines::planned;
 use count_lines::put_count;
 use count_lines::put_counted;
+use runs::Start;
 use table::Read;
 ghost use mathlib.Core.Path.{_≡_};
 ghost use Prim.Native.Nat.{_≤_};
@@ -17,7 +18,7 @@ fn put_table(bytes: &[u8], clocks: usize, steps: usize, guards: usize, out: &mut
     ensures { λ r. ⌜ WritesTable (now (bytes .entry)) clocks steps guards (now (out .entry)) (now (out .exit)) r ⌝ }
     ensures { λ r. ⌜ r ≤ 4096 ⌝ }
 {
-    let count = rounds::rounds(bytes);
+    let count = rounds::rounds(bytes, Start::LogIn);
     let a = put_counted(&mut *out, 0, clocks, steps, guards);
     let b = put_count(&mut *out, a, count);
     let k = planned(count);

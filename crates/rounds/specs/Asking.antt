@@ -8,6 +8,8 @@ use Rattle.table.specs.declared.Read.the-variants as read
 use Rattle.table.specs.declared.Refusal.{Refusal}
 use Rattle.table.specs.declared.Table.{Table}
 use Rattle.table.specs.Step.{Step, stepsOf, Good}
+use Rattle.runs.specs.declared.Start.{Start}
+use Rattle.runs.specs.Demand.{Starts, startsOf}
 use Rattle.format.specs.Encode.{Legal}
 use Rattle.format.specs.Accepted.{accepted-written}
 use Rattle.format.specs.Fair.{legal-clocks, legal-resets}
@@ -22,11 +24,11 @@ use Rattle.rounds.specs.declared.Count.{Count}
 use Rattle.rounds.specs.declared.Count.the-variants.{Refused}
 use Rattle.rounds.specs.Answer.{Counts, Answers}
 
-counts-same : {m n : ℕ} {σ τ : List Step} (r : Count) → m ≡ n → σ ≡ τ → Counts m σ r → Counts n τ r
+counts-same : {m n : ℕ} {D : Starts} {σ τ : List Step} (r : Count) → m ≡ n → σ ≡ τ → Counts m D σ r → Counts n D τ r
 counts-same r e f h = rw (e, f) at h
 
-module _ (bytes : List ℕ) (a : Read) (e : a ≡ readOf bytes) where
-  pub answers-refused : (f : Refusal) → a ≡ read.Refused f → Answers (readOf bytes) bytes (Refused f)
+module _ (bytes : List ℕ) (v : Start) (a : Read) (e : a ≡ readOf bytes) where
+  pub answers-refused : (f : Refusal) → a ≡ read.Refused f → Answers (readOf bytes) bytes v (Refused f)
   answers-refused f q = rw (sym e ∙ q) refl
 
   module _ (t : Table) (s : t ≡ tableOf bytes) (small : Bytes bytes) (n L g : ℕ) (q : a ≡ read.Counted n L g) where
@@ -49,6 +51,6 @@ module _ (bytes : List ℕ) (a : Read) (e : a ≡ readOf bytes) where
         member : List·Memᴰ s (cycle (listing bytes))
         member = rw (represents .same) at m
 
-    pub answers-counted : (r : Count) → Counts (t .clocks) (stepsOf t) r → Answers (readOf bytes) bytes r
+    pub answers-counted : (r : Count) → Counts (t .clocks) (startsOf v) (stepsOf t) r → Answers (readOf bytes) bytes v r
     answers-counted r h =
         rw (sym e ∙ q) (counts-same r (represents .clocks) (represents .same) h)

@@ -1,4 +1,4 @@
--- There is only one count of a table, and only one answer to the question "rounds".
+-- There is only one count of a table from given starts, and only one answer to the question "rounds".
 use mathlib.Core.Path.{_≡_, refl, sym, ap, _∙_}
 use mathlib.Core.List.{List}
 use Prim.Native.Nat.{ℕ, suc, _≤_}
@@ -6,16 +6,17 @@ use native.Mathlib.Omega.{arith}
 use Rattle.table.specs.Step.{Step}
 use Rattle.table.specs.declared.Read.{Read}
 use Rattle.table.specs.declared.Read.the-variants as read
-use Rattle.runs.specs.Demand.{anyStarts}
-use Rattle.runs.specs.Allowed.{any-allowed}
+use Rattle.runs.specs.declared.Start.{Start}
+use Rattle.runs.specs.Demand.{Starts, startsOf}
+use Rattle.runs.specs.Start.{Upper, start-upper}
 use Rattle.runs.specs.Copies.{exists-none}
 use Rattle.rounds.specs.declared.Count.{Count}
 use Rattle.rounds.specs.declared.Count.the-variants.{Finite, Endless, Refused}
 use Rattle.rounds.specs.Answer.{Allows, Counts, Answers}
 
--- a count allows 0 rounds, since they always run: so it is no refusal
-pub counts-nothing : (n : ℕ) (τ : List Step) (r : Count) → Counts n τ r → Allows r 0
-counts-nothing n τ r c = c .runs 0 .0 (exists-none n anyStarts τ 1 (λ j. 0) (omega arith) (any-allowed 1 n (λ j. 0)))
+-- a count allows 0 rounds, since they always run where readings of 0 are allowed: so it is no refusal
+pub counts-nothing : (n : ℕ) (D : Starts) (τ : List Step) (r : Count) → Upper n D → Counts n D τ r → Allows r 0
+counts-nothing n D τ r u c = c .runs 0 .0 (exists-none n D τ 1 (λ j. 0) (omega arith) (u .zero 1))
 
 -- two counts that allow the same numbers of rounds, 0 among them
 same-allowed : (r s : Count) → Allows r 0 → ((k : ℕ) → Allows r k → Allows s k) → ((k : ℕ) → Allows s k → Allows r k) → r ≡ s
@@ -30,13 +31,14 @@ same-allowed Endless Endless h f g = refl
 same-allowed Endless (Refused e) h f g = absurd (f 0 h)
 same-allowed (Refused e) s h f g = absurd h
 
-pub counts-unique : (n : ℕ) (τ : List Step) (r s : Count) → Counts n τ r → Counts n τ s → r ≡ s
-counts-unique n τ r s a b =
+pub counts-unique : (n : ℕ) (D : Starts) (τ : List Step) (r s : Count) → Upper n D → Counts n D τ r → Counts n D τ s → r ≡ s
+counts-unique n D τ r s u a b =
     same-allowed r s
-    (counts-nothing n τ r a)
+    (counts-nothing n D τ r u a)
     (λ k h. b .runs k .0 (a .runs k .1 h))
     (λ k h. a .runs k .0 (b .runs k .1 h))
 
-pub rounds-answer-one : (q : Read) (bytes : List ℕ) (r s : Count) → Answers q bytes r → Answers q bytes s → r ≡ s
-rounds-answer-one (read.Refused f) bytes r s a b = a ∙ sym b
-rounds-answer-one (read.Counted n L g) bytes r s a b = counts-unique _ _ r s a b
+pub rounds-answer-one : (q : Read) (bytes : List ℕ) (v : Start) (r s : Count) → Answers q bytes v r → Answers q bytes v s
+    → r ≡ s
+rounds-answer-one (read.Refused f) bytes v r s a b = a ∙ sym b
+rounds-answer-one (read.Counted n L g) bytes v r s a b = counts-unique _ (startsOf v) _ r s (start-upper v _) a b

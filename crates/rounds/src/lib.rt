@@ -1,15 +1,23 @@
-// The question "rounds": how many rounds of a table have a run.
+// The question "rounds": how many rounds of a table have a run from a start that the variant allows.
+use admitting::admits;
 use climbing::down;
 use climbing::up;
 use decode::parse;
 use joins::round_effect;
+use runs::Start;
 use table::Read;
 use table::Refusal;
 use table::Table;
+ghost use mathlib.Core.Path.{_≡_};
 ghost use Prim.Native.Nat.{_+_};
+ghost use lib.ListN.{length};
 ghost use Rattle.table.specs.Step.{stepsOf, Good};
+ghost use Rattle.runs.specs.Demand.{startsOf};
 ghost use Rattle.wire.specs.Reading.{readOf};
+ghost use Rattle.effects.specs.Starts.{startsFor};
+ghost use Rattle.effects.specs.Whole.{Side};
 ghost use Rattle.joins.specs.Round.{UsesAll};
+ghost use Rattle.rounds.specs.First.{First};
 ghost use Rattle.rounds.specs.Answer.{Counts, Answers};
 
 // The answer: the greatest number of rounds that has a run, that every number has one, or a refusal.
@@ -19,30 +27,51 @@ pub enum Count {
     Refused(Refusal),
 }
 
+// The effect of one round of a table at place 0 of the row, and whether it runs from a start that the variant allows.
+fn first_round(
+    row: &mut [u64],
+    out: &mut [u64],
+    left: &mut [u64],
+    t: Table,
+    start: Start,
+    side: usize,
+) -> bool
+    requires { ⌜ (length (now row) ≡ 4900) × (length (now out) ≡ 441) × (length (now left) ≡ 441) × Good t × Side side
+        × UsesAll side t ⌝ }
+    ensures { λ r. ⌜ First side (startsFor side start) (stepsOf t) r (now (row .exit)) ⌝ }
+{
+    let one = round_effect(row, out, t, side);
+    if !one {
+        return false;
+    }
+    admits(row, 0, 14, left, start, side)
+}
+
 // The count of an accepted table, whose clocks are looked at and no others.
-fn rounds_of(t: Table) -> Count
+fn rounds_of(t: Table, start: Start) -> Count
     requires { ⌜ Good t × UsesAll (t .clocks + 1) t ⌝ }
-    ensures { λ r. ⌜ Counts (t .clocks) (stepsOf t) r ⌝ }
+    ensures { λ r. ⌜ Counts (t .clocks) (startsOf start) (stepsOf t) r ⌝ }
 {
     let side = t.clocks + 1;
     let mut row: [u64; 4900] = [0; 4900];
     let mut out: [u64; 441] = [0; 441];
-    let one = round_effect(&mut row, &mut out, t, side);
+    let mut left: [u64; 441] = [0; 441];
+    let one = first_round(&mut row, &mut out, &mut left, t, start, side);
     if !one {
         return Count::Finite(0);
     }
-    let top = up(&mut row, &mut out, side);
+    let top = up(&mut row, &mut out, &mut left, start, side);
     let place = top.place;
     if place == 24 {
         return Count::Endless;
     }
-    let count = down(&mut row, &mut out, place, top.power, side);
+    let count = down(&mut row, &mut out, &mut left, start, place, top.power, side);
     Count::Finite(count)
 }
 
-// The answer to the question "rounds".
-pub fn rounds(bytes: &[u8]) -> Count
-    ensures { λ r. ⌜ Answers (readOf (now (bytes .entry))) (now (bytes .entry)) r ⌝ }
+// The answer to the question "rounds", for a variant of the start.
+pub fn rounds(bytes: &[u8], start: Start) -> Count
+    ensures { λ r. ⌜ Answers (readOf (now (bytes .entry))) (now (bytes .entry)) start r ⌝ }
 {
     let parsed = parse(bytes);
     let answer = parsed.answer;
@@ -50,7 +79,7 @@ pub fn rounds(bytes: &[u8]) -> Count
         Read::Refused(refusal) => Count::Refused(refusal),
         Read::Counted { .. } => {
             let table = parsed.table;
-            rounds_of(table)
+            rounds_of(table, start)
         }
     }
 }

@@ -16,11 +16,6 @@ pub any-allowed : (P n : ℕ) (s : ℕ → ℕ) → Allowed P anyStarts n s
 unfolding anyStarts
 any-allowed P n s = record { allowed = λ j p l d m. absurd (List·Memᴰ·not-nil m) }
 
--- nothing is said of the starts, so nothing of other places
-pub any-places : (n : ℕ) → Places n anyStarts
-unfolding anyStarts
-any-places n j p l d m = absurd (List·Memᴰ·not-nil m)
-
 -- ---- as times
 -- the times y of places 0 to n agree with the starting readings s
 abbrev pub Agrees : ℕ → (ℕ → ℕ) → (ℕ → ℕ) → Type 0
@@ -57,10 +52,6 @@ cut P s j = min (s j) (4001 * P)
 abbrev pub Plain : ℕ → Starts → Type 0
 Plain n D =
     (j : ℕ) → 0 < j → j ≤ n → (d : Demand) → List·Memᴰ d (D j) → (d .to ≡ 0) ⊎ ((d .from ≡ 0) × (d .down ≤ 4000))
-
-pub any-plain : (n : ℕ) → Plain n anyStarts
-unfolding anyStarts
-any-plain n j p l d m = absurd (List·Memᴰ·not-nil m)
 
 cut-less : (P : ℕ) (s : ℕ → ℕ) (a : ℕ) → back (cut P s) a ≤ back s a
 cut-less P s zero = omega arith

@@ -9,6 +9,8 @@ use Rattle.table.specs.declared.Guard.{Guard}
 use Rattle.table.specs.declared.Relation.{Relation}
 use Rattle.table.specs.declared.Relation.the-variants.{Under, AtMost, Exactly, AtLeast, Over}
 use Rattle.runs.specs.declared.Demand.{Demand}
+use Rattle.runs.specs.declared.Start.{Start}
+use Rattle.runs.specs.declared.Start.the-variants.{LogIn, MidShift}
 use Rattle.runs.specs.Run.{zeroed, Run}
 
 -- at most, or under if strict
@@ -57,9 +59,18 @@ stepsDemands (step ∷ σ) i z =
 abbrev pub Starts : Type 0
 Starts = ℕ → List Demand
 
--- 01's: any starting readings
+-- any starting readings
 unfoldable pub anyStarts : Starts
 anyStarts j = []
+
+-- all starting readings 0: no clock was last reset before the start
+unfoldable pub zeroStarts : Starts
+zeroStarts j = plus j 0 0 false ∷ []
+
+-- those of each variant
+abbrev pub startsOf : Start → Starts
+startsOf LogIn = zeroStarts
+startsOf MidShift = anyStarts
 
 -- the moment of a place, when there are K steps
 abbrev pub moment : ℕ → ℕ → ℕ

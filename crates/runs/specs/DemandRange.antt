@@ -27,7 +27,7 @@ pub record Proper (N : ℕ) (d : Demand) : Type 0 where
   pub down : d .down ≤ 4000
   pub signed : (d .up ≡ 0) ⊎ (d .down ≡ 0)
 
-plus-proper : (N a b c : ℕ) (s : Bool) → a ≤ N → b ≤ N → a ≢ b → c ≤ 4000 → Proper N (plus a b c s)
+pub plus-proper : (N a b c : ℕ) (s : Bool) → a ≤ N → b ≤ N → a ≢ b → c ≤ 4000 → Proper N (plus a b c s)
 plus-proper N a b c s p q r l = record { from = p; to = q; apart = r; up = l; down = omega arith; signed = inr refl }
 
 minus-proper : (N a b c : ℕ) (s : Bool) → a ≤ N → b ≤ N → a ≢ b → c ≤ 4000 → Proper N (minus a b c s)

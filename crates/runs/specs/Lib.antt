@@ -26,3 +26,5 @@ pub mod Cycle
 -- the demand order, for programs that list or use it
 pub mod DemandOrder
 pub mod DemandRange
+-- the variants of the start
+pub mod Start

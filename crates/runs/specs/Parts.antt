@@ -79,7 +79,7 @@ some-strict (e ∷ es) h = go (some-strict es) (e .strict) refl
         let d = k (omega arith) in
         (d .0, List·Memᴰ·tail (d .1), d .2)
 
-bit-small : (b : Bool) → bit b ≤ 1
+pub bit-small : (b : Bool) → bit b ≤ 1
 bit-small true = omega arith
 bit-small false = omega arith
 

@@ -9,3 +9,10 @@ pub struct Demand {
     pub down: u64,
     pub strict: bool,
 }
+
+// The variant of the start, which says what the readings of the clocks may be at the start of a run: all 0, as log-in sets them, or
+// any, as they are in mid-shift.
+pub enum Start {
+    LogIn,
+    MidShift,
+}

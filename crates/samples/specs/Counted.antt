@@ -5,7 +5,9 @@ use mathlib.Core.List.{List, [], _∷_, List·Memᴰ}
 use Prim.Native.Nat.{_<_}
 use native.Mathlib.Omega.{arith}
 use Rattle.runs.specs.Run.{zeroed, copies}
-use Rattle.runs.specs.Demand.{plus, minus, guardsDemands, stepsDemands, anyStarts, startDemands, demands}
+use Rattle.runs.specs.Demand.{plus, minus, guardsDemands, stepsDemands}
+use Rattle.runs.specs.Demand.{anyStarts, zeroStarts, startsOf, startDemands, demands}
+use Rattle.runs.specs.Start.{start-upper}
 use Rattle.runs.specs.Tools.{Every, every-nil, every-cons}
 use Rattle.wire.specs.Records.{recordsFrom}
 use Rattle.records.specs.Rules.{headed, guarded, finished, ended, cleared}
@@ -19,16 +21,21 @@ use Rattle.samples.specs.Follows.{Accepted}
 use Rattle.samples.specs.Checks.{both, all, some, below}
 use Rattle.samples.specs.Lines.{line, atMost, same}
 use Rattle.samples.specs.Walks.{old, may, after, walks, end}
+use Rattle.samples.specs.Begins.{begins}
 use Rattle.samples.specs.Cycles.{alike, leads, contradicts}
 use Rattle.samples.specs.Rounds.{runs, repeats}
 use Rattle.samples.specs.Evidence.{Evidence, stops, repeated, tells, tells-counts}
 use Rattle.samples.specs.Reads.{accepts, accepts-legal}
 
+-- round r is at time 3 r + 3, and x was reset at 3 r
+abbrev threes : Evidence
+threes = repeated 1 0 (line 0 3 0 ∷ line 0 3 0 ∷ []) (line 3 3 0 ∷ [])
+
 -- Evidence for each sample, in their order. A configuration is now and the last resets of x and y.
 evidence : List Evidence
 evidence =
-    -- S1: round r is at time 3 r + 3, and x was reset at 3 r
-    repeated 1 0 (line 0 3 0 ∷ line 0 3 0 ∷ []) (line 3 3 0 ∷ [])
+    -- S1
+    threes
     -- S2: rounds at 3 and 6, x was reset at 0, y at 3; for 3 rounds 01's loop 3, 2, 1, 0, 5
     ∷ stops 1 (3 ∷ 0 ∷ 3 ∷ []) (3 ∷ 6 ∷ [])
     (minus 3 2 3 false ∷ minus 2 1 3 false ∷ plus 1 0 0 false ∷ plus 0 5 0 false ∷ plus 5 3 5 false ∷ [])
@@ -51,11 +58,19 @@ evidence =
     ∷ repeated 1 0 (line 2 0 0 ∷ line 0 0 0 ∷ []) (line 2 0 0 ∷ [])
     -- S10: the steps of round r are at times 3 r + 3 and 3 r + 6, x was reset at 3 r + 3, and y at 3 r
     ∷ repeated 1 0 (line 3 3 0 ∷ line 3 3 0 ∷ line 0 3 0 ∷ []) (line 3 3 0 ∷ line 6 3 0 ∷ [])
+    -- S1 from log-in: the same, since x was reset at the start
+    ∷ threes
+    -- S2 from log-in: a round at 3, x and y were reset at 0; for 2 rounds a loop by log-in's demand from 3 to 0
+    ∷ stops 1 (0 ∷ 0 ∷ 0 ∷ []) (3 ∷ [])
+    (minus 2 1 3 false ∷ minus 1 3 3 false ∷ plus 3 0 0 false ∷ plus 0 4 0 false ∷ plus 4 2 5 false ∷ [])
     ∷ []
 
 -- a sample is accepted, and its evidence tells its count
+abbrev told : Sample → Evidence → Bool
+told s e = tells (clocksOf (s .bytes)) (startsOf (s .start)) (cycleOf (s .bytes)) (s .count) e
+
 shown : Sample → Evidence → Bool
-shown s e = accepts (s .bytes) && tells (clocksOf (s .bytes)) (cycleOf (s .bytes)) (s .count) e
+shown s e = accepts (s .bytes) && told s e
 
 -- so for each sample of a list
 each : List Sample → List Evidence → Bool
@@ -64,19 +79,20 @@ each (s ∷ ss) [] = false
 each (s ∷ ss) (e ∷ es) = shown s e && each ss es
 
 -- ---- what it says
-abbrev Shown : Sample → Type 0
-Shown s = Accepted (s .bytes) × Counts (clocksOf (s .bytes)) (cycleOf (s .bytes)) (s .count)
+abbrev pub Shown : Sample → Type 0
+Shown s = Accepted (s .bytes) × Counts (clocksOf (s .bytes)) (startsOf (s .start)) (cycleOf (s .bytes)) (s .count)
 
 shown-is : (s : Sample) (e : Evidence) → shown s e ≡ true → Shown s
 unfolding shown
 shown-is s e h = go (both h)
   where
-    go : (accepts (s .bytes) ≡ true) × (tells (clocksOf (s .bytes)) (cycleOf (s .bytes)) (s .count) e ≡ true) → Shown s
+    go : (accepts (s .bytes) ≡ true) × (told s e ≡ true) → Shown s
     go (a, t) =
         let (accepted, legal) = accepts-legal (s .bytes) a in
         let few : clocksOf (s .bytes) < 7 = omega (arith, legal .clocks-few) in (
           accepted,
-          tells-counts (clocksOf (s .bytes)) (cycleOf (s .bytes)) few (legal-fair _ legal) (legal-clocks _ legal)
+          tells-counts (clocksOf (s .bytes)) (startsOf (s .start)) (cycleOf (s .bytes)) few
+              (start-upper (s .start) (clocksOf (s .bytes))) (legal-fair _ legal) (legal-clocks _ legal)
               (s .count) e t,
         )
 
@@ -92,11 +108,10 @@ each-is (s ∷ ss) (e ∷ es) h =
 computed : each samples evidence ≡ true
 unfolding each shown samples evidence accepts tells all some below
     recordsFrom headed guarded cleared finished ended wholeOf judgeOf check readOf stepsIn listing guardsOf flagged stepOf
-    zeroed copies guardsDemands stepsDemands anyStarts startDemands demands
-    atMost same old may after walks end alike leads contradicts runs repeats
+    zeroed copies guardsDemands stepsDemands anyStarts zeroStarts startDemands demands
+    atMost same old may after walks end begins alike leads contradicts runs repeats
 computed = refl
 
 -- so all samples are accepted and have their counts.
-pub counted : (s : Sample) → List·Memᴰ s samples
-    → Accepted (s .bytes) × Counts (clocksOf (s .bytes)) (cycleOf (s .bytes)) (s .count)
+pub counted : (s : Sample) → List·Memᴰ s samples → Shown s
 counted = each-is samples evidence computed

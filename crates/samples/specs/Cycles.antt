@@ -9,10 +9,9 @@ use lib.ListN.{length}
 use borrow.Author.Tests.{eqb-true, ltb-true}
 use Rattle.table.specs.Step.{Step}
 use Rattle.runs.specs.declared.Demand.{Demand}
-use Rattle.runs.specs.Demand.{anyStarts, demands, Exists, Clocks}
+use Rattle.runs.specs.Demand.{Starts, demands, Exists, Clocks, Places}
 use Rattle.runs.specs.Loop.{total}
 use Rattle.runs.specs.Tools.{every-cons}
-use Rattle.runs.specs.Allowed.{any-places}
 use Rattle.runs.specs.Satisfies.{Satisfies}
 use Rattle.runs.specs.Parts.{gain, loss, holds-parts, parts-negative, negative-parts}
 use Rattle.runs.specs.Refutes.{exists-satisfies}
@@ -86,12 +85,12 @@ unfolding contradicts
 contradicts-says ds es e = three e
 
 -- No run exists whose demands have such a cycle.
-pub contradicts-run : (n : ℕ) (σ : List Step) (es : List Demand) → Clocks n σ
-    → contradicts (demands n σ anyStarts) es ≡ true → Exists n anyStarts σ → ⊥
-contradicts-run n σ es f e r =
-    let ds = demands n σ anyStarts in
+pub contradicts-run : (n : ℕ) (D : Starts) (σ : List Step) (es : List Demand) → Clocks n σ → Places n D
+    → contradicts (demands n σ D) es ≡ true → Exists n D σ → ⊥
+contradicts-run n D σ es f g e r =
+    let ds = demands n σ D in
     let (members, cycle, negative) = contradicts-says ds es e in
-    let (x, holds) = exists-satisfies n σ anyStarts f (any-places n) r in
+    let (x, holds) = exists-satisfies n σ D f g r in
     let every : Satisfies (r .parts) x es = λ d m. holds d (found ds d (all-every (λ e. some (alike e) ds) es members d m)) in
     let below = negative-parts (r .parts) es (r .positive) (parts-negative (length es) es (omega arith) (ltb-true _ _ negative)) in
     omega (arith, leads-sum (r .parts) x (start es) es (start es) every cycle, below)

@@ -1,4 +1,4 @@
--- What 01 says of a sample.
+-- What 01 and N1 say of a sample.
 use mathlib.Core.Path.{_≡_}
 use mathlib.Core.List.{List, map}
 use Prim.Native.Nat.{ℕ, _+_, _*_}
@@ -8,7 +8,7 @@ use Rattle.table.specs.declared.Read.the-variants.{Counted}
 use Rattle.table.specs.Step.{Step}
 use Rattle.wire.specs.Reading.{readOf}
 use Rattle.runs.specs.Run.{copies}
-use Rattle.runs.specs.Demand.{ticksOf, anyStarts, demands}
+use Rattle.runs.specs.Demand.{ticksOf, Starts, startsOf, demands}
 use Rattle.runs.specs.declared.Demand.{Demand}
 use Rattle.runs.specs.Loop.{Loop}
 use Rattle.runs.specs.Tools.{Every}
@@ -25,11 +25,11 @@ pub record Accepted (bytes : List ℕ) : Type 0 where
   pub read : readOf bytes ≡ Counted (clocksOf bytes) steps guards
 
 -- a plan: as many moments as k rounds have steps and a start for each clock, in 01's parts, and these are the plan
-pub record PlanIs (n : ℕ) (τ : List Step) (k P : ℕ) (moments starts : List ℕ) : Type 0 where
+pub record PlanIs (n : ℕ) (D : Starts) (τ : List Step) (k P : ℕ) (moments starts : List ℕ) : Type 0 where
   pub steps : length moments ≡ k * length τ
   pub clocks : length starts ≡ n
   pub parts : P ≡ k * length τ + n + 1
-  pub planned : Planned P n (copies τ k) anyStarts (momentsIn moments) (startsIn starts)
+  pub planned : Planned P n (copies τ k) D (momentsIn moments) (startsIn starts)
 
 -- a loop whose demands have these bounds
 pub record LoopIs (ds : List Demand) (row : List ℕ) (bounds : List ℤ) : Type 0 where
@@ -37,12 +37,12 @@ pub record LoopIs (ds : List Demand) (row : List ℕ) (bounds : List ℤ) : Type
   pub bounded : map ticksOf (loop .used) ≡ bounds
 
 -- what is said of "plan for k"
-abbrev pub PlanHolds : ℕ → List Step → Plan → Type 0
-PlanHolds n τ (planned k P moments starts) = PlanIs n τ k P moments starts
-PlanHolds n τ (looped k row bounds) = LoopIs (demands n (copies τ k) anyStarts) row bounds
+abbrev pub PlanHolds : ℕ → Starts → List Step → Plan → Type 0
+PlanHolds n D τ (planned k P moments starts) = PlanIs n D τ k P moments starts
+PlanHolds n D τ (looped k row bounds) = LoopIs (demands n (copies τ k) D) row bounds
 
--- all that 01 says of a sample
+-- all that they say of a sample
 pub record Follows (s : Sample) : Type 0 where
   pub accepted : Accepted (s .bytes)
-  pub counted : Counts (clocksOf (s .bytes)) (cycleOf (s .bytes)) (s .count)
-  pub planned : Every (PlanHolds (clocksOf (s .bytes)) (cycleOf (s .bytes))) (s .plans)
+  pub counted : Counts (clocksOf (s .bytes)) (startsOf (s .start)) (cycleOf (s .bytes)) (s .count)
+  pub planned : Every (PlanHolds (clocksOf (s .bytes)) (startsOf (s .start)) (cycleOf (s .bytes))) (s .plans)

@@ -3,6 +3,7 @@ pub mod Follows
 pub mod Checks
 pub mod Lines
 pub mod Walks
+pub mod Begins
 pub mod Cycles
 pub mod Rounds
 pub mod Evidence

@@ -37,6 +37,10 @@ times c l = line (c * l .base) (c * l .each) (c * l .whole)
 abbrev pub onward : Line → Line
 onward l = line (l .base + l .each) (l .each) (l .whole)
 
+-- the number of round 0, in every round
+abbrev pub initial : Line → Line
+initial l = line (l .base) 0 (l .whole)
+
 -- l is at most m in every round r of k. For k = r + 1 + j both are linear in r and in j, and it is tested by coefficients.
 unfoldable pub atMost : Line → Line → Bool
 atMost l m =

@@ -10,8 +10,7 @@ use borrow.Author.Tests.{eqb-true, ltb-true, leb-true, le-leb, lt-leb}
 use Rattle.table.specs.Step.{Step}
 use Rattle.runs.specs.Run.{Run}
 use Rattle.runs.specs.declared.Demand.{Demand}
-use Rattle.runs.specs.Demand.{anyStarts, demands, Allowed, Clocks}
-use Rattle.runs.specs.Allowed.{any-places}
+use Rattle.runs.specs.Demand.{Starts, demands, Allowed, Clocks, Places}
 use Rattle.runs.specs.Satisfies.{Satisfies}
 use Rattle.runs.specs.Rows.{Row, run-satisfies, rowAt, row-is, run-row}
 use Rattle.basics.specs.Numbers.{top, top-ge}
@@ -45,32 +44,32 @@ times-row S K n t s e h =
     past : (j : ℕ) → 0 < j → times S K t s (K + j) ≡ S - s j
     past j p = let q : K + j - K ≡ j = omega arith in rw (lt-leb (K + j) K (omega arith), q)
 
-module _ (P n : ℕ) (σ : List Step) (t s : ℕ → ℕ) where
+module _ (P n : ℕ) (σ : List Step) (D : Starts) (t s : ℕ → ℕ) where
   abbrev K : ℕ
   K = length σ
 
   abbrev ds : List Demand
-  ds = demands n σ anyStarts
+  ds = demands n σ D
 
   -- moment 0 is at the largest start
   abbrev x : ℕ → ℕ
   x = times (top (suc n) s) K t s
 
-  -- The demands hold; tight ones lead from each moment to moment 0; and a tight one leads from a moment to the last reset
-  -- of each clock before the start.
+  -- The demands hold; tight ones, at most one for each other moment, lead from each moment to moment 0; and a tight one
+  -- leads from a moment to the last reset of each clock before the start.
   unfoldable pub isPlan : Bool
   isPlan =
       eqb (t 0) 0
       && (clocked n σ
       && (solves P ds x
-      && (below (suc K) (held P ds x K)
+      && (below (suc K) (held P ds x (K + n))
       && below n (λ j. pinned P ds x K (K + suc j)))))
 
   record Passed : Type 0 where
     start : t 0 ≡ 0
     clocks : Clocks n σ
     solution : Satisfies P x ds
-    first : (i : ℕ) → i < suc K → held P ds x K i ≡ true
+    first : (i : ℕ) → i < suc K → held P ds x (K + n) i ≡ true
     last : (j : ℕ) → j < n → pinned P ds x K (K + suc j) ≡ true
 
   passed : isPlan ≡ true → Passed
@@ -88,7 +87,7 @@ module _ (P n : ℕ) (σ : List Step) (t s : ℕ → ℕ) where
         last = below-each n _ last;
       }
 
-  module _ (h : Passed) where
+  module _ (g : Places n D) (h : Passed) where
     row : Row K n t s x
     row = times-row (top (suc n) s) K n t s (h .start) (λ j p l. top-ge (suc n) s j (omega arith))
 
@@ -100,13 +99,13 @@ module _ (P n : ℕ) (σ : List Step) (t s : ℕ → ℕ) where
     unfolding other
     other-row u r w = row-is (top (suc n) r) K n u r (w .start) (λ j p l. top-ge (suc n) r j (omega arith))
 
-    other-solves : (u r : ℕ → ℕ) → Run P σ u r → Allowed P anyStarts n r → Satisfies P (other u r) ds
+    other-solves : (u r : ℕ → ℕ) → Run P σ u r → Allowed P D n r → Satisfies P (other u r) ds
     unfolding other
     other-solves u r w a =
-        run-row P (top (suc n) r) n σ anyStarts u r (h .clocks) (any-places n)
+        run-row P (top (suc n) r) n σ D u r (h .clocks) g
         (λ j p l. top-ge (suc n) r j (omega arith)) w a
 
-    planned : Planned P n σ anyStarts t s
+    planned : Planned P n σ D t s
     planned =
         record {
           run = is .0;
@@ -114,17 +113,17 @@ module _ (P n : ℕ) (σ : List Step) (t s : ℕ → ℕ) where
           earliest = λ u r w a i l.
               omega (
                 arith,
-                held-first P ds x K i (h .first i (omega arith)) (other u r) (other-solves u r w a),
+                held-first P ds x (K + n) i (h .first i (omega arith)) (other u r) (other-solves u r w a),
                 row .now i l,
                 other-row u r w .now i l,
               );
           smallest = smallest;
         }
       where
-        is : Run P σ t s × Allowed P anyStarts n s
-        is = run-satisfies P n σ anyStarts t s x (h .clocks) (any-places n) row .1 (h .solution)
+        is : Run P σ t s × Allowed P D n s
+        is = run-satisfies P n σ D t s x (h .clocks) g row .1 (h .solution)
 
-        smallest : (r : ℕ → ℕ) → Run P σ t r → Allowed P anyStarts n r → (j : ℕ) → 0 < j → j ≤ n → s j ≤ r j
+        smallest : (r : ℕ → ℕ) → Run P σ t r → Allowed P D n r → (j : ℕ) → 0 < j → j ≤ n → s j ≤ r j
         smallest r w a (suc j) p l =
             omega (
               arith,
@@ -135,5 +134,5 @@ module _ (P n : ℕ) (σ : List Step) (t s : ℕ → ℕ) where
             )
 
   -- Moments and starts that pass are the plan.
-  pub plan-sound : isPlan ≡ true → Planned P n σ anyStarts t s
-  plan-sound e = planned (passed e)
+  pub plan-sound : Places n D → isPlan ≡ true → Planned P n σ D t s
+  plan-sound g e = planned g (passed e)

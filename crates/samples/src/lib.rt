@@ -1,1 +1,1 @@
-// 01's starred samples follow from the definitions. All of it is in specs.
+// The starred samples of 01 and N1 follow from the definitions. All of it is in specs.

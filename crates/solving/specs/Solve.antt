@@ -1,14 +1,15 @@
 -- From the passes to what is written.
 use mathlib.Core.Path.{_≡_, refl, sym, ap, subst, _∙_}
 use mathlib.Core.Bool.{false}
-use mathlib.Core.List.{List, _∷_, _++_, List·Memᴰ, List·Memᴰ·head, Memᴰ·append-left, Memᴰ·map}
+use mathlib.Core.List.{List, _∷_, _++_, List·Memᴰ, List·Memᴰ·head, Memᴰ·append-left, Memᴰ·append-right, Memᴰ·map}
 use Prim.Native.Nat.{ℕ, zero, suc, _+_, _*_, _-_, _≤_, _<_, _^_}
 use native.Mathlib.Omega.{arith}
 use native.Mathlib.Decide.{decLe}
 use lib.ListN.{length, take, drop}
 use Rattle.runs.specs.declared.Demand.{Demand}
-use Rattle.runs.specs.Demand.{plus}
-use Rattle.sweeps.specs.Order.{forthOf, returnOf}
+use Rattle.runs.specs.Demand.{plus, startsOf}
+use Rattle.runs.specs.Start.{start-upper}
+use Rattle.sweeps.specs.Order.{forthOf, returnOf, partnersFrom}
 use Rattle.sweeps.specs.Covered.{among-forth}
 use Rattle.basics.specs.Tab.{tab, is-tab, length-tab, getD-tab}
 use Rattle.paths.specs.Places.{at, written, filled, length-written, at-written, at-written-rest}
@@ -105,9 +106,10 @@ module _ (R : Rows) (z : Sound R) where
   unfolding constraintsOf
   order-member i l =
       Memᴰ·map (inParts P)
+      (Memᴰ·append-right (partnersFrom K (startsOf (R .start)) 1 n)
       (Memᴰ·append-left (returnOf (R .up) (R .far) (R .steps) n K)
       (among-forth (R .low) (R .far) (R .steps) n K 0 K i (plus (suc i) i 0 false) (omega arith) (omega arith)
-      (List·Memᴰ·head refl)))
+      (List·Memᴰ·head refl))))
 
   rising : (x : ℕ → ℕ) → All cs x → (i : ℕ) → i ≤ K → x 0 ≤ x i
   rising x h zero l = omega arith
@@ -201,6 +203,8 @@ module _ (R : Rows) (z : Sound R) where
           starts =
               g
               ∙ written-same _ (λ j. leastStart (at (s′ .time)) (constraintsOf R) (K + (j + 1))) n starts fit
-              (λ j w. sym (least-forth P K (at (s′ .time)) (j + 1) (R .low) (R .far) (R .steps) n (R .up) (omega arith)));
+              (λ j w. sym
+              (least-forth P K (at (s′ .time)) (j + 1) (R .low) (R .far) (R .steps) n (R .up) (startsOf (R .start))
+              (start-upper (R .start) n) (omega arith)));
           loop = refl;
         }

@@ -4,6 +4,7 @@ use paths::write_cycle;
 use readout::write_moments;
 use readout::write_starts;
 use relaxing::passes;
+use runs::Start;
 ghost use Rattle.paths.specs.State.{state};
 ghost use Rattle.relaxing.specs.Rows.{rows, Sound};
 ghost use Rattle.solving.specs.Solved.{Solved};
@@ -21,6 +22,7 @@ pub fn solve(
     low: &[u64],
     up: &[u64],
     far: &[usize],
+    start: Start,
     steps: usize,
     clocks: usize,
     total: usize,
@@ -32,10 +34,10 @@ pub fn solve(
     stamp: &mut [u64],
     marks: &mut [u64],
 ) -> Solution
-    requires { ⌜ Sound (rows (now low) (now up) (now far) steps clocks total)
-        × Roomy (rows (now low) (now up) (now far) steps clocks total) (now times) (now starts) (now room)
-        × Spacious (rows (now low) (now up) (now far) steps clocks total) (state (now time) (now parent) (now stamp)) (now marks) ⌝ }
-    ensures { λ a. ⌜ Solved (rows (now (low .entry)) (now (up .entry)) (now (far .entry)) steps clocks total)
+    requires { ⌜ Sound (rows (now low) (now up) (now far) start steps clocks total)
+        × Roomy (rows (now low) (now up) (now far) start steps clocks total) (now times) (now starts) (now room)
+        × Spacious (rows (now low) (now up) (now far) start steps clocks total) (state (now time) (now parent) (now stamp)) (now marks) ⌝ }
+    ensures { λ a. ⌜ Solved (rows (now (low .entry)) (now (up .entry)) (now (far .entry)) start steps clocks total)
         (now (times .entry)) (now (starts .entry)) (now (room .entry))
         (now (times .exit)) (now (starts .exit)) (now (room .exit)) a ⌝ }
 {
@@ -47,6 +49,7 @@ pub fn solve(
         low,
         up,
         far,
+        start,
         steps,
         clocks,
         total,

@@ -1,8 +1,9 @@
 // Rows solved in space of their own.
+use runs::Start;
 use solving::Solution;
 use solving::solve;
-ghost use Prim.Native.Nat.{_≤_};
-ghost use Rattle.relaxing.specs.Rows.{rows, moments, Sound};
+ghost use Prim.Native.Nat.{_+_, _<_};
+ghost use Rattle.relaxing.specs.Rows.{rows, Sound};
 ghost use Rattle.solving.specs.Solved.{Solved};
 ghost use Rattle.solving.specs.Solve.{Roomy};
 
@@ -11,6 +12,7 @@ fn solve_small(
     low: &[u64],
     up: &[u64],
     far: &[usize],
+    start: Start,
     steps: usize,
     clocks: usize,
     total: usize,
@@ -18,10 +20,10 @@ fn solve_small(
     starts: &mut [u64],
     room: &mut [u64],
 ) -> Solution
-    requires { ⌜ Sound (rows (now low) (now up) (now far) steps clocks total)
-        × Roomy (rows (now low) (now up) (now far) steps clocks total) (now times) (now starts) (now room)
-        × (moments (rows (now low) (now up) (now far) steps clocks total) ≤ 64) ⌝ }
-    ensures { λ a. ⌜ Solved (rows (now (low .entry)) (now (up .entry)) (now (far .entry)) steps clocks total)
+    requires { ⌜ Sound (rows (now low) (now up) (now far) start steps clocks total)
+        × Roomy (rows (now low) (now up) (now far) start steps clocks total) (now times) (now starts) (now room)
+        × (total + clocks < 64) ⌝ }
+    ensures { λ a. ⌜ Solved (rows (now (low .entry)) (now (up .entry)) (now (far .entry)) start steps clocks total)
         (now (times .entry)) (now (starts .entry)) (now (room .entry))
         (now (times .exit)) (now (starts .exit)) (now (room .exit)) a ⌝ }
 {
@@ -33,6 +35,7 @@ fn solve_small(
         low,
         up,
         far,
+        start,
         steps,
         clocks,
         total,
@@ -51,6 +54,7 @@ fn solve_large(
     low: &[u64],
     up: &[u64],
     far: &[usize],
+    start: Start,
     steps: usize,
     clocks: usize,
     total: usize,
@@ -58,9 +62,9 @@ fn solve_large(
     starts: &mut [u64],
     room: &mut [u64],
 ) -> Solution
-    requires { ⌜ Sound (rows (now low) (now up) (now far) steps clocks total)
-        × Roomy (rows (now low) (now up) (now far) steps clocks total) (now times) (now starts) (now room) ⌝ }
-    ensures { λ a. ⌜ Solved (rows (now (low .entry)) (now (up .entry)) (now (far .entry)) steps clocks total)
+    requires { ⌜ Sound (rows (now low) (now up) (now far) start steps clocks total)
+        × Roomy (rows (now low) (now up) (now far) start steps clocks total) (now times) (now starts) (now room) ⌝ }
+    ensures { λ a. ⌜ Solved (rows (now (low .entry)) (now (up .entry)) (now (far .entry)) start steps clocks total)
         (now (times .entry)) (now (starts .entry)) (now (room .entry))
         (now (times .exit)) (now (starts .exit)) (now (room .exit)) a ⌝ }
 {
@@ -72,6 +76,7 @@ fn solve_large(
         low,
         up,
         far,
+        start,
         steps,
         clocks,
         total,
@@ -90,6 +95,7 @@ pub fn solve_here(
     low: &[u64],
     up: &[u64],
     far: &[usize],
+    start: Start,
     steps: usize,
     clocks: usize,
     total: usize,
@@ -97,14 +103,36 @@ pub fn solve_here(
     starts: &mut [u64],
     room: &mut [u64],
 ) -> Solution
-    requires { ⌜ Sound (rows (now low) (now up) (now far) steps clocks total)
-        × Roomy (rows (now low) (now up) (now far) steps clocks total) (now times) (now starts) (now room) ⌝ }
-    ensures { λ a. ⌜ Solved (rows (now (low .entry)) (now (up .entry)) (now (far .entry)) steps clocks total)
+    requires { ⌜ Sound (rows (now low) (now up) (now far) start steps clocks total)
+        × Roomy (rows (now low) (now up) (now far) start steps clocks total) (now times) (now starts) (now room) ⌝ }
+    ensures { λ a. ⌜ Solved (rows (now (low .entry)) (now (up .entry)) (now (far .entry)) start steps clocks total)
         (now (times .entry)) (now (starts .entry)) (now (room .entry))
         (now (times .exit)) (now (starts .exit)) (now (room .exit)) a ⌝ }
 {
     if total + clocks < 64 {
-        return solve_small(low, up, far, steps, clocks, total, times, starts, room);
+        return solve_small(
+            low,
+            up,
+            far,
+            start,
+            steps,
+            clocks,
+            total,
+            times,
+            starts,
+            room,
+        );
     }
-    solve_large(low, up, far, steps, clocks, total, times, starts, room)
+    solve_large(
+        low,
+        up,
+        far,
+        start,
+        steps,
+        clocks,
+        total,
+        times,
+        starts,
+        room,
+    )
 }

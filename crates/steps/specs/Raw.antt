@@ -28,11 +28,11 @@ raw-put w s l m z e f =
 
 module _ (w : ℕ) (side : Side w) (s : Step) (f : Fair s) (u : Uses w s) (l m : List ℕ) (d : Diagonal (w + w) (w + w) l)
     (e : m ≡ putsOf (stepDemands w s) l) where
-  raw : Put (w + w) (stepDemands w s) l m
+  raw : Put 4000 (w + w) (stepDemands w s) l m
   raw =
-      subst (Put (w + w) (stepDemands w s) l) (sym e)
-      (puts w (side .1) (stepDemands w s) (step-short w (side .0) s f (u .guards)) l (unbounded-ranged d 4000)
-      (unbounded-flat d))
+      subst (Put 4000 (w + w) (stepDemands w s) l) (sym e)
+      (puts 4000 (w + w) (omega arith) (omega arith) (omega (arith, side .1)) (stepDemands w s)
+      (step-short w (side .0) s f (u .guards)) l (unbounded-ranged d 4000))
 
   -- The cells may be closed,
   pub raw-closable : Ranged (2 ^ 52) (w + w) m
@@ -44,7 +44,7 @@ module _ (w : ℕ) (side : Side w) (s : Step) (f : Fair s) (u : Uses w s) (l m :
     runs = λ q.
         whole-step w side s u f
         (canonical-for (λ P x. Satisfies P x (stepDemands w s))
-        (closure-canonical (closing-closure c (no-others (w + w) (matrix m)) q) (raw .flat))
+        (closure-canonical (closing-closure c (no-others (w + w) (matrix m)) q) (raw .flat (unbounded-flat d)))
         (λ P x p. ((λ h. raw .solves P x p .0 h .1), λ h. raw .solves P x p .1 (unbounded-solves d P x p, h))));
     stuck = λ q.
         step-stuck w side s u f

@@ -2,8 +2,8 @@
 use mathlib.Core.Path.{_≡_, refl, sym, ap, subst, _∙_}
 use mathlib.Core.Logic.{_⊎_, inl, inr, ⊎-elim}
 use mathlib.Core.Bool.{Bool, true, false}
-use mathlib.Core.List.{List, [], _∷_, _++_, List·Memᴰ, append-assoc}
-use mathlib.Core.List.{List·Memᴰ·not-nil, List·Memᴰ·append-cases, Memᴰ·append-left, Memᴰ·append-right}
+use mathlib.Core.List.{List, [], _∷_, _++_, map, List·Memᴰ, List·Memᴰ·head, List·Memᴰ·tail, append-assoc}
+use mathlib.Core.List.{List·Memᴰ·not-nil, List·Memᴰ·cases-cons, List·Memᴰ·append-cases, Memᴰ·append-left, Memᴰ·append-right}
 use Prim.Native.Nat.{ℕ, zero, suc, _+_, _*_, _%_, _≤_, _<_}
 use native.Mathlib.Omega.{arith}
 use native.Mathlib.Nat.{mod-lt}
@@ -14,7 +14,8 @@ use Rattle.table.specs.Steps.{step-member}
 use Rattle.table.specs.declared.Guard.{Guard}
 use Rattle.table.specs.declared.Table.{Table}
 use Rattle.runs.specs.declared.Demand.{Demand}
-use Rattle.runs.specs.Demand.{plus, guardsDemands, startDemands, anyStarts}
+use Rattle.runs.specs.declared.Start.{Start}
+use Rattle.runs.specs.Demand.{plus, guardsDemands, Starts, moved, startDemands, anyStarts, startsOf}
 use Rattle.constraints.specs.Demands.{demandsOf}
 use Rattle.constraints.specs.Sized.{Sized, stepsPart, startsPart, parts-are}
 use Rattle.sides.specs.Sides.{Side}
@@ -24,7 +25,7 @@ use Rattle.sides.specs.Keys.{keysOf, keys-at}
 use Rattle.last_resets.specs.Since.{stepOf, lastResets}
 use Rattle.last_resets.specs.Rounds.{demandsFrom, steps-are}
 use Rattle.last_resets.specs.Distance.{lastOf, distancesOf, distances-at, last-of}
-use Rattle.sweeps.specs.Order.{cell, sideOf, side-none, side-more, forthAt, forthOf, backAt, backOf, returnOf, sweepOf}
+use Rattle.sweeps.specs.Order.{cell, sideOf, side-none, side-more, forthAt, forthOf, backAt, backOf, partnersFrom, sweepOf}
 
 -- ---- the demands of some steps are those of each
 -- a step from i on, of m steps, whose list has d
@@ -102,6 +103,57 @@ module _ (t : Table) (K : ℕ) where
       go h (yes e) = Memᴰ·append-left _ (rw e at k)
       go h (no e) = Memᴰ·append-right (ownAt i) (h (omega arith) (omega arith) k)
 
+-- ---- the start demands are the partners, and those of any start
+module _ (K : ℕ) (D : Starts) where
+  partner-start : (j n : ℕ) (d : Demand) → List·Memᴰ d (partnersFrom K D j n) → List·Memᴰ d (startDemands K D j n)
+  unfolding partnersFrom startDemands
+  partner-start j zero d k = absurd (List·Memᴰ·not-nil k)
+  partner-start j (suc n) d k =
+      List·Memᴰ·tail
+      (⊎-elim (Memᴰ·append-left _) (λ l. Memᴰ·append-right (map (moved K) (D j)) (partner-start (suc j) n d l))
+      (List·Memᴰ·append-cases (map (moved K) (D j)) k))
+
+  any-start : (j n : ℕ) (d : Demand) → List·Memᴰ d (startDemands K anyStarts j n) → List·Memᴰ d (startDemands K D j n)
+  unfolding startDemands anyStarts
+  any-start j zero d k = k
+  any-start j (suc n) d k =
+      ⊎-elim (λ e. List·Memᴰ·head e) (λ l. List·Memᴰ·tail (Memᴰ·append-right (map (moved K) (D j)) (any-start (suc j) n d l)))
+      (List·Memᴰ·cases-cons k)
+
+  start-among : (j n : ℕ) (d : Demand) → List·Memᴰ d (startDemands K D j n)
+      → List·Memᴰ d (partnersFrom K D j n) ⊎ List·Memᴰ d (startDemands K anyStarts j n)
+  unfolding partnersFrom startDemands anyStarts
+  start-among j zero d k = inr k
+  start-among j (suc n) d k =
+      ⊎-elim (λ e. inr (List·Memᴰ·head e))
+      (λ l. ⊎-elim (λ h. inl (Memᴰ·append-left _ h))
+      (λ h. ⊎-elim (λ q. inl (Memᴰ·append-right (map (moved K) (D j)) q)) (λ q. inr (List·Memᴰ·tail q)) (start-among (suc j) n d h))
+      (List·Memᴰ·append-cases (map (moved K) (D j)) l))
+      (List·Memᴰ·cases-cons k)
+
+  covers-starts : (j n : ℕ) → Covers (partnersFrom K D j n ++ startDemands K anyStarts j n) (startDemands K D j n)
+  covers-starts j n =
+      record {
+        among = λ e m. ⊎-elim (partner-start j n e) (any-start j n e) (List·Memᴰ·append-cases (partnersFrom K D j n) m);
+        covered = λ d m.
+            covers-same (partnersFrom K D j n ++ startDemands K anyStarts j n) .covered d
+            (⊎-elim (Memᴰ·append-left _) (Memᴰ·append-right (partnersFrom K D j n)) (start-among j n d m));
+      }
+
+-- the first of three lists may change place with the second
+turned : (ps cs qs : List Demand) (e : Demand) → List·Memᴰ e (ps ++ (cs ++ qs)) → List·Memᴰ e (cs ++ (ps ++ qs))
+turned ps cs qs e m =
+    ⊎-elim (λ l. Memᴰ·append-right cs (Memᴰ·append-left qs l))
+    (λ l. ⊎-elim (Memᴰ·append-left (ps ++ qs)) (λ h. Memᴰ·append-right cs (Memᴰ·append-right ps h)) (List·Memᴰ·append-cases cs l))
+    (List·Memᴰ·append-cases ps m)
+
+covers-turned : (ps cs qs ds : List Demand) → Covers (cs ++ (ps ++ qs)) ds → Covers (ps ++ (cs ++ qs)) ds
+covers-turned ps cs qs ds c =
+    record {
+      among = λ e m. c .among e (turned ps cs qs e m);
+      covered = λ d m. let e = c .covered d m in (e .0, turned cs ps qs (e .0) (e .1), e .2);
+    }
+
 -- ---- the rows of a table
 module _ (t : Table) (k : ℕ) (z : Sized t k) where
   abbrev K : ℕ
@@ -167,17 +219,16 @@ module _ (t : Table) (k : ℕ) (z : Sized t k) where
             side-tight true i 1 n (omega (arith, z .good .clocks-few)),
           )
 
-  abbrev sweep : List Demand
-  sweep = sweepOf (keysOf false t) (keysOf true t) far L n K
+  abbrev all-forth : List Demand
+  all-forth = forthOf (keysOf false t) far L n K 0 K
 
-  starts-last : List Demand
-  starts-last = startsPart t k
+  abbrev all-back : List Demand
+  all-back = backOf (keysOf true t) far L n K K
 
-  steps-among : (d : Demand) → List·Memᴰ d (forthOf (keysOf false t) far L n K 0 K ++ backOf (keysOf true t) far L n K K)
-      → List·Memᴰ d (demandsFrom t K 0 K)
+  steps-among : (d : Demand) → List·Memᴰ d (all-forth ++ all-back) → List·Memᴰ d (demandsFrom t K 0 K)
   steps-among d m =
       ⊎-elim (λ l. forth (forth-among (keysOf false t) far L n K 0 K d l)) (λ l. back (back-among (keysOf true t) far L n K K d l))
-      (List·Memᴰ·append-cases (forthOf (keysOf false t) far L n K 0 K) m)
+      (List·Memᴰ·append-cases all-forth m)
     where
       forth : Among forth-at 0 K d → List·Memᴰ d (demandsFrom t K 0 K)
       forth a =
@@ -190,32 +241,29 @@ module _ (t : Table) (k : ℕ) (z : Sized t k) where
           (covers-step (a .step) .among d (Memᴰ·append-right (forth-at (a .step)) (a .member)))
 
   steps-covered : (d : Demand) → List·Memᴰ d (demandsFrom t K 0 K)
-      → (e : Demand)
-      × List·Memᴰ e (forthOf (keysOf false t) far L n K 0 K ++ backOf (keysOf true t) far L n K K)
-      × Stronger e d
+      → (e : Demand) × List·Memᴰ e (all-forth ++ all-back) × Stronger e d
   steps-covered d m = go (from-among t K 0 K d m)
     where
-      go : Among (ownAt t K) 0 K d
-          → (e : Demand)
-          × List·Memᴰ e (forthOf (keysOf false t) far L n K 0 K ++ backOf (keysOf true t) far L n K K)
-          × Stronger e d
+      go : Among (ownAt t K) 0 K d → (e : Demand) × List·Memᴰ e (all-forth ++ all-back) × Stronger e d
       go a =
           let c = covers-step (a .step) .covered d (a .member) in (
             c .0,
             ⊎-elim
-                (λ l. Memᴰ·append-left (backOf (keysOf true t) far L n K K)
+                (λ l. Memᴰ·append-left all-back
                 (among-forth (keysOf false t) far L n K 0 K (a .step) (c .0) (a .first) (a .last) l))
-                (λ l. Memᴰ·append-right (forthOf (keysOf false t) far L n K 0 K)
+                (λ l. Memᴰ·append-right all-forth
                 (among-back (keysOf true t) far L n K K (a .step) (c .0) (omega (arith, a .last)) l))
                 (List·Memᴰ·append-cases (forth-at (a .step)) (c .1)),
             c .2,
           )
 
   -- What a pass checks stands for all demands.
-  pub covers-sweep : Covers sweep (demandsOf t k)
-  covers-sweep =
-      subst (λ ds. Covers ds (demandsOf t k))
-      (append-assoc (forthOf (keysOf false t) far L n K 0 K) (backOf (keysOf true t) far L n K K) (startsPart t k))
-      (subst (Covers ((forthOf (keysOf false t) far L n K 0 K ++ backOf (keysOf true t) far L n K K) ++ startsPart t k))
-      (ap (λ ds. ds ++ startsPart t k) (sym (steps-are t k (z .good))) ∙ sym (parts-are t k))
-      (covers-append (record { among = steps-among; covered = steps-covered }) (covers-same (startsPart t k))))
+  pub covers-sweep : (v : Start) → Covers (sweepOf (keysOf false t) (keysOf true t) far (startsOf v) L n K) (demandsOf t v k)
+  covers-sweep v =
+      let partners = partnersFrom K (startsOf v) 1 n in
+      let starts = startDemands K anyStarts 1 n in
+      subst (λ ds. Covers (partners ++ ds) (demandsOf t v k)) (append-assoc all-forth all-back starts)
+      (covers-turned partners (all-forth ++ all-back) starts (demandsOf t v k)
+      (subst (Covers ((all-forth ++ all-back) ++ (partners ++ starts)))
+      (ap (λ ds. ds ++ startsPart t v k) (sym (steps-are t k (z .good))) ∙ sym (parts-are t v k))
+      (covers-append (record { among = steps-among; covered = steps-covered }) (covers-starts K (startsOf v) 1 n))))

@@ -1,8 +1,8 @@
--- Between which moments the demands of a pass are: none of those forth raises the end of one before it, and none of the others does.
+-- Between which moments the demands of a pass are: none of the partners and of those forth raises the end of one before it.
 use mathlib.Core.Path.{_≡_, refl, sym, ap, subst, _∙_}
 use mathlib.Core.Logic.{_⊎_, inl, inr, ⊎-elim, _≢_}
 use mathlib.Core.Bool.{Bool, true, false, cond}
-use mathlib.Core.List.{List, [], _∷_, _++_, List·Memᴰ}
+use mathlib.Core.List.{List, [], _∷_, _++_, map, List·Memᴰ}
 use mathlib.Core.List.{List·Memᴰ·not-nil, List·Memᴰ·cases-cons, List·Memᴰ·append-cases}
 use Prim.Native.Nat.{ℕ, zero, suc, _+_, _*_, _-_, _%_, _≤_, _<_}
 use native.Mathlib.Omega.{arith}
@@ -10,11 +10,13 @@ use native.Mathlib.Decide.{decLe}
 use lib.Dec.{eqb, eqb·suc-zero}
 use lib.ListN.{getD}
 use Rattle.runs.specs.declared.Demand.{Demand}
-use Rattle.runs.specs.Demand.{plus, startDemands, anyStarts}
+use Rattle.runs.specs.Demand.{plus, Starts, moment, moved, startDemands, anyStarts}
+use Rattle.runs.specs.Start.{Upper}
+use Rattle.runs.specs.Tools.{Every, every-nil, every-append, every-map}
 use Rattle.sides.specs.Sides.{Side}
 use Rattle.sides.specs.Tight.{keyDemand, keyDemands, key-demands-listed}
 use Rattle.last_resets.specs.Distance.{lastOf, reached, reached-yes, reached-no}
-use Rattle.sweeps.specs.Order.{cell, sideOf, forthAt, forthOf, backAt, backOf, returnOf}
+use Rattle.sweeps.specs.Order.{cell, sideOf, forthAt, forthOf, backAt, backOf, partnersFrom}
 
 -- a moment up to i, or the last reset of a clock before the start
 abbrev pub Earlier : ℕ → ℕ → ℕ → Type 0
@@ -93,6 +95,28 @@ back-ends up far L n K (suc i) d k =
     here l =
         let e = side-ends true up far K (i % L) i 1 n (omega arith) d l in
         (omega (arith, e .0), omega (arith, e .0), ⊎-elim (λ h. inl (omega arith)) (λ h. inr h) (e .1))
+
+-- ---- partners
+-- from the last reset of a clock before the start, to the start
+abbrev pub ToStart : ℕ → Demand → Type 0
+ToStart K d = (K < d .from) × (d .to ≡ 0)
+
+moved-ends : (K : ℕ) (d : Demand) → d .to ≡ 0 → d .from ≢ d .to → ToStart K (moved K d)
+moved-ends K d e n = (go (d .from) (λ f. n (f ∙ sym e)), ap (moment K) e)
+  where
+    go : (a : ℕ) → a ≢ 0 → K < moment K a
+    go zero h = absurd (h refl)
+    go (suc a) h = omega arith
+
+pub partners-ends : (K n : ℕ) (D : Starts) → Upper n D → (j m : ℕ) → 0 < j → j + m ≤ suc n → Every (ToStart K) (partnersFrom K D j m)
+unfolding partnersFrom
+partners-ends K n D u j zero p b = every-nil (ToStart K)
+partners-ends K n D u j (suc m) p b =
+    every-append (ToStart K) (map (moved K) (D j)) _ .1 (
+      every-map (ToStart K) (moved K) (D j) .1
+          (λ d k. moved-ends K d (u .ends j p (omega arith) d k) (u .proper j p (omega arith) d k .apart)),
+      partners-ends K n D u (suc j) m (omega arith) (omega arith),
+    )
 
 -- ---- starts
 -- They say that a clock was not last reset after the start.

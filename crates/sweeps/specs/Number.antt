@@ -1,16 +1,19 @@
 -- How many demands a pass checks.
 use mathlib.Core.Path.{_≡_}
 use mathlib.Core.Bool.{Bool, true, false}
-use mathlib.Core.List.{List, [], _∷_, _++_}
+use mathlib.Core.List.{List, [], _∷_, _++_, map}
 use Prim.Native.Nat.{ℕ, zero, suc, _+_, _*_, _%_, _≤_, _<_}
 use native.Mathlib.Omega.{arith}
 use native.Mathlib.Nat.{mul-le-mul-left, mul-le-mul-right}
-use lib.ListN.{length, length-append, getD}
-use Rattle.runs.specs.Demand.{plus, startDemands, anyStarts}
+use lib.ListN.{length, length-append, length-map, getD}
+use Rattle.runs.specs.declared.Start.{Start}
+use Rattle.runs.specs.declared.Start.the-variants.{MidShift}
+use Rattle.runs.specs.Demand.{plus, moved, startDemands, anyStarts, startsOf}
+use Rattle.constraints.specs.Partner.{partners-are, partners-few, starts-number}
 use Rattle.sides.specs.Sides.{Side}
 use Rattle.sides.specs.Tight.{keyDemands, key-demands-few}
 use Rattle.last_resets.specs.Distance.{lastOf}
-use Rattle.sweeps.specs.Order.{cell, sideOf, forthAt, forthOf, backAt, backOf, returnOf, sweepOf}
+use Rattle.sweeps.specs.Order.{cell, sideOf, forthAt, forthOf, backAt, backOf, returnOf, partnersFrom, sweepOf}
 
 -- at most one for each clock
 side-few : (b : Side) (keys far : List ℕ) (K s i j m : ℕ) → length (sideOf b keys far K s i j m) ≤ m
@@ -35,19 +38,24 @@ module _ (n : ℕ) (few : n ≤ 6) where
       rw (length-append (backAt up far L n K i) (backOf up far L n K i))
       (omega (arith, side-few true up far K (i % L) i 1 n, back-few up far L K i))
 
-start-number : (K j n : ℕ) → length (startDemands K anyStarts j n) ≡ n
-unfolding startDemands anyStarts
-start-number K j zero = omega arith
-start-number K j (suc n) = omega (arith, start-number K (suc j) n)
+partner-few : (v : Start) (K j n : ℕ) → length (partnersFrom K (startsOf v) j n) ≤ n
+unfolding partnersFrom
+partner-few v K j zero = omega arith
+partner-few v K j (suc n) =
+    rw (length-append (map (moved K) (startsOf v j)) (partnersFrom K (startsOf v) (suc j) n))
+    (omega (arith, length-map (startsOf v j) (moved K), partners-are v j, partners-few v, partner-few v K (suc j) n))
 
--- six clocks and 1,024 steps: at most 13,318
-pub sweep-few : (low up far : List ℕ) (L n K : ℕ) → n ≤ 6 → K ≤ 1024 → length (sweepOf low up far L n K) ≤ 13318
-sweep-few low up far L n K a b =
+-- six clocks and 1,024 steps: at most 13,324
+pub sweep-few : (low up far : List ℕ) (v : Start) (L n K : ℕ) → n ≤ 6 → K ≤ 1024
+    → length (sweepOf low up far (startsOf v) L n K) ≤ 13324
+sweep-few low up far v L n K a b =
     omega (
       arith,
+      length-append (partnersFrom K (startsOf v) 1 n) (forthOf low far L n K 0 K ++ returnOf up far L n K),
       length-append (forthOf low far L n K 0 K) (returnOf up far L n K),
       length-append (backOf up far L n K K) (startDemands K anyStarts 1 n),
+      partner-few v K 1 n,
       forth-few n a low far L K 0 K,
       back-few n a up far L K K,
-      start-number K 1 n,
+      starts-number MidShift K 1 n,
     )

@@ -1,3 +1,4 @@
+pub mod Partners
 pub mod Forth
 pub mod Back
 pub mod Starting

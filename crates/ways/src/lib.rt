@@ -1,18 +1,73 @@
-// The checks of a pass over the difference constraints of k rounds: forth over those that raise a later moment, back over those that
-// raise an earlier one, and of the starts.
+// The checks of a pass over the difference constraints of k rounds: of the variant of the start, forth over those that raise a later
+// moment, back over those that raise an earlier one, and of the starts.
 use checks::Sweep;
 use checks::check;
 use checks::check_side;
+use constraints::Partner;
 use constraints::following;
 use constraints::not_after;
+use constraints::partner_of;
+use constraints::partners;
 use last_resets::preceding;
+use runs::Start;
 ghost use mathlib.Core.Path.{_≡_};
 ghost use Prim.Native.Nat.{_≤_, _%_};
-ghost use Rattle.runs.specs.Demand.{startDemands, anyStarts};
-ghost use Rattle.sweeps.specs.Order.{forthOf, backOf};
+ghost use Rattle.runs.specs.Demand.{startDemands, anyStarts, startsOf};
+ghost use Rattle.constraints.specs.Partner.{partnerList};
+ghost use Rattle.sweeps.specs.Order.{forthOf, backOf, partnersFrom};
 ghost use Rattle.paths.specs.State.{state};
 ghost use Rattle.checks.specs.Checks.{Checkable, Checked};
 ghost use Rattle.ways.specs.Forth.{Going};
+
+// The check of a partner, if it is one.
+fn check_partner(
+    partner: Partner,
+    parts: u64,
+    time: &mut [u64],
+    parent: &mut [u64],
+    stamp: &mut [u64],
+    w: Sweep,
+) -> Sweep
+    requires { ⌜ Checkable parts (partnerList partner) (state (now time) (now parent) (now stamp)) (w .stamp) ⌝ }
+    ensures { λ r. ⌜ Checked parts (partnerList partner) (w .raised) (w .stamp)
+        (state (now (time .entry)) (now (parent .entry)) (now (stamp .entry)))
+        (state (now (time .exit)) (now (parent .exit)) (now (stamp .exit))) (r .raised) (r .stamp) ⌝ }
+{
+    match partner {
+        Partner::One(d) => check(parts, d, time, parent, stamp, w),
+        Partner::None => w,
+    }
+}
+
+// The checks of the partner of each clock, in a variant that has some.
+pub fn check_partners(
+    start: Start,
+    total: usize,
+    clocks: usize,
+    parts: u64,
+    time: &mut [u64],
+    parent: &mut [u64],
+    stamp: &mut [u64],
+    w: Sweep,
+) -> Sweep
+    requires { ⌜ (total ≤ 1024) × (clocks ≤ 6) × Checkable parts (partnersFrom total (startsOf start) 1 clocks)
+        (state (now time) (now parent) (now stamp)) (w .stamp) ⌝ }
+    ensures { λ r. ⌜ Checked parts (partnersFrom total (startsOf start) 1 clocks) (w .raised) (w .stamp)
+        (state (now (time .entry)) (now (parent .entry)) (now (stamp .entry)))
+        (state (now (time .exit)) (now (parent .exit)) (now (stamp .exit))) (r .raised) (r .stamp) ⌝ }
+{
+    if partners(start) == 0 {
+        return w;
+    }
+    let mut swept = w;
+    let mut j: usize = 0;
+    while j < clocks {
+        let partner = partner_of(start, total, j + 1);
+        swept = check_partner(partner, parts, time, parent, stamp, swept);
+        j += 1;
+    }
+    swept
+}
 
 // The checks forth, from step to step: the order demand of a step, then its tightest guards from below. Step i is step s of its round.
 pub fn forth(

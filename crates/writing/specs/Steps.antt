@@ -13,6 +13,7 @@ use Rattle.table.specs.declared.Guard.{Guard}
 use Rattle.table.specs.declared.Table.{Table}
 use Rattle.runs.specs.Run.{copies, zeroed}
 use Rattle.runs.specs.declared.Demand.{Demand}
+use Rattle.runs.specs.declared.Start.{Start}
 use Rattle.runs.specs.Demand.{plus, guardDemands, stepsDemands}
 use Rattle.runs.specs.DemandOrder.{stepsDemands-cons, stepsDemands-same}
 use Rattle.constraints.specs.Pieces.{resetOf, followingOf, following-round, following-on}
@@ -27,27 +28,27 @@ use Rattle.writing.specs.Passed.{startsDue, stepsDue, guardsDue, laterDu
 use Rattle.writing.specs.Ends.{rounds-fair}
 
 module _ {t : Table} {k : ℕ} (ready : Ready t k) where
-  module _ {old row : List ℤ} {q i s : ℕ} {z : List ℕ} (p : Passed t k old row q i s z) where
+  module _ {v : Start} {old row : List ℤ} {q i s : ℕ} {z : List ℕ} (p : Passed t v k old row q i s z) where
     -- ---- a step begins: its order demand, its guards, and what comes after it
     module _ (l : i < k * t .steps) where
       orders : List Demand
       orders = plus (i + 1) i 0 false ∷ []
 
-      one-step : stepsDue t k i z ++ startsDue t k
-          ≡ orders ++ (guardsDue t s i z (getD (t .ends) s 0) ++ laterDue t k s i z)
+      one-step : stepsDue t k i z ++ startsDue t v k
+          ≡ orders ++ (guardsDue t s i z (getD (t .ends) s 0) ++ laterDue t v k s i z)
       unfolding orders guardsFrom stepAt
       one-step =
           let y : ℕ → ℕ = λ j. getD z j 0 in
-          ap (λ τ. stepsDemands τ i y ++ startsDue t k) (rounds-drop t k (p .round) s i (p .step) (p .steps) l)
-          ∙ ap (λ ds. ds ++ startsDue t k) (stepsDemands-cons (stepAt t s) (drop (suc i) (copies (stepsOf t) k)) i y)
+          ap (λ τ. stepsDemands τ i y ++ startsDue t v k) (rounds-drop t k (p .round) s i (p .step) (p .steps) l)
+          ∙ ap (λ ds. ds ++ startsDue t v k) (stepsDemands-cons (stepAt t s) (drop (suc i) (copies (stepsOf t) k)) i y)
           ∙ rw (← add-one i)
-          (append-assoc (orders ++ guardsDue t s i z (getD (t .ends) s 0)) _ (startsDue t k)
-          ∙ ap (λ ds. (orders ++ guardsDue t s i z (getD (t .ends) s 0)) ++ (ds ++ startsDue t k))
+          (append-assoc (orders ++ guardsDue t s i z (getD (t .ends) s 0)) _ (startsDue t v k)
+          ∙ ap (λ ds. (orders ++ guardsDue t s i z (getD (t .ends) s 0)) ++ (ds ++ startsDue t v k))
           (stepsDemands-same (drop (i + 1) (copies (stepsOf t) k)) (i + 1) (zeroed (stepAt t s) (i + 1) y)
           (λ j. getD (resetOf (t .resets) s (i + 1) z) j 0) (rounds-fair ready (i + 1)) (reset-same t s (i + 1) z (p .resets))))
 
-      order-left : Left old 0 (demandsOf t k) row q
-          (orders ++ (guardsDue t s i z (getD (t .ends) s 0) ++ laterDue t k s i z))
+      order-left : Left old 0 (demandsOf t v k) row q
+          (orders ++ (guardsDue t s i z (getD (t .ends) s 0) ++ laterDue t v k s i z))
       order-left = left-as one-step (p .left)
 
       pub order-fits : Fits row q (plus (i + 1) i 0 false ∷ [])
@@ -55,7 +56,7 @@ module _ {t : Table} {k : ℕ} (ready : Ready t k) where
       order-fits = fits-front orders _ (order-left .fits)
 
       pub passed-order : {row′ : List ℤ} {q′ g : ℕ} → g ≡ getD (t .ends) s 0
-          → Wrote row q (plus (i + 1) i 0 false ∷ []) row′ q′ → Inside t k old row′ q′ i s g z
+          → Wrote row q (plus (i + 1) i 0 false ∷ []) row′ q′ → Inside t v k old row′ q′ i s g z
       unfolding orders
       passed-order {row′} {q′} {g} e w =
           record {
@@ -67,10 +68,10 @@ module _ {t : Table} {k : ℕ} (ready : Ready t k) where
             first = omega arith;
             last = omega (arith, ready .sound .good .order s (p .step));
             left =
-                left-as (ap (λ n. guardsDue t s i z n ++ laterDue t k s i z) (sym e)) (left-next orders _ order-left w);
+                left-as (ap (λ n. guardsDue t s i z n ++ laterDue t v k s i z) (sym e)) (left-next orders _ order-left w);
           }
 
-  module _ {old row : List ℤ} {q i s g : ℕ} {z : List ℕ} (p : Inside t k old row q i s g z) where
+  module _ {v : Start} {old row : List ℤ} {q i s g : ℕ} {z : List ℕ} (p : Inside t v k old row q i s g z) where
     -- ---- it is at a step and at a guard of the table
     pub inside-step : s < 16
     inside-step = omega (arith, p .step, ready .sound .good .steps-few)
@@ -91,19 +92,19 @@ module _ {t : Table} {k : ℕ} (ready : Ready t k) where
           guardDemands (getD (t .guards) g d .relation) (getD (t .guards) g d .constant)
           (getD z (getD (t .guards) g d .clock) 0) (i + 1)
 
-      guard-left : Left old 0 (demandsOf t k) row q (here ++ (guardsDue t s i z (g + 1) ++ laterDue t k s i z))
+      guard-left : Left old 0 (demandsOf t v k) row q (here ++ (guardsDue t s i z (g + 1) ++ laterDue t v k s i z))
       guard-left =
           let room = ready .sound .good .room (s + 1) (omega (arith, p .step)) in
           left-as
-          (ap (λ ds. ds ++ laterDue t k s i z)
+          (ap (λ ds. ds ++ laterDue t v k s i z)
           (guards-more t s (i + 1) z g d l (omega (arith, room, ready .sound .good .guards-size)))
-          ∙ append-assoc here (guardsDue t s i z (g + 1)) (laterDue t k s i z))
+          ∙ append-assoc here (guardsDue t s i z (g + 1)) (laterDue t v k s i z))
           (p .left)
 
       pub guard-fits : Fits row q here
       guard-fits = fits-front here _ (guard-left .fits)
 
-      pub passed-guard : {row′ : List ℤ} {q′ : ℕ} → Wrote row q here row′ q′ → Inside t k old row′ q′ i s (g + 1) z
+      pub passed-guard : {row′ : List ℤ} {q′ : ℕ} → Wrote row q here row′ q′ → Inside t v k old row′ q′ i s (g + 1) z
       passed-guard w =
           record {
             round = p .round;
@@ -118,22 +119,22 @@ module _ {t : Table} {k : ℕ} (ready : Ready t k) where
 
     -- ---- the step is past
     pub passed-step : {s′ : ℕ} {z′ : List ℕ} → getD (t .ends) (s + 1) 0 ≤ g
-        → z′ ≡ resetOf (t .resets) s (i + 1) z → s′ ≡ followingOf s (t .steps) → Passed t k old row q (i + 1) s′ z′
+        → z′ ≡ resetOf (t .resets) s (i + 1) z → s′ ≡ followingOf s (t .steps) → Passed t v k old row q (i + 1) s′ z′
     passed-step {s′} {z′} b e f = go (decLt (s + 1) (t .steps))
       where
         size : length z′ ≡ 7
         size = ap length e ∙ length-reset (t .resets) s (i + 1) z 7 ∙ p .resets
 
-        left : Left old 0 (demandsOf t k) row q (stepsDue t k (i + 1) z′ ++ startsDue t k)
+        left : Left old 0 (demandsOf t v k) row q (stepsDue t k (i + 1) z′ ++ startsDue t v k)
         left =
             let n : g ≡ getD (t .ends) (s + 1) 0 = omega (arith, p .last) in
             left-as
-            (ap (λ m. guardsDue t s i z m ++ laterDue t k s i z) n
-            ∙ ap (λ ds. ds ++ laterDue t k s i z) (guards-end t s (i + 1) z)
-            ∙ ap (λ y. stepsDue t k (i + 1) y ++ startsDue t k) (sym e))
+            (ap (λ m. guardsDue t s i z m ++ laterDue t v k s i z) n
+            ∙ ap (λ ds. ds ++ laterDue t v k s i z) (guards-end t s (i + 1) z)
+            ∙ ap (λ y. stepsDue t k (i + 1) y ++ startsDue t v k) (sym e))
             (p .left)
 
-        go : Dec (s + 1 < t .steps) → Passed t k old row q (i + 1) s′ z′
+        go : Dec (s + 1 < t .steps) → Passed t v k old row q (i + 1) s′ z′
         go (yes a) =
             let n : s′ ≡ s + 1 = f ∙ following-on s (t .steps) (omega arith) in
             record {

@@ -8,7 +8,9 @@ use lib.ListN.{length, getD}
 use lib.Seq.{slice, slice-empty, slice-cons}
 use Rattle.table.specs.declared.Guard.{Guard}
 use Rattle.table.specs.declared.Table.{Table}
+use Rattle.runs.specs.declared.Start.{Start}
 use Rattle.constraints.specs.Demands.{demandsOf}
+use Rattle.constraints.specs.Partner.{partnersOf}
 use Rattle.constraints.specs.Count.{demands-bounded}
 use Rattle.constraints.specs.Number.{guardNumber, guardsNumber, guards-nil, guards-cons, ends-order, demands-number}
 use Rattle.writing.specs.Ready.{Ready}
@@ -37,23 +39,24 @@ module _ {t : Table} {k : ℕ} (ready : Ready t k) where
       }
 
   module _ {n place : ℕ} (p : Tallied t n place) where
-    pub tallied-few : n ≤ 132102
-    tallied-few =
+    pub tallied-few : (v : Start) → n ≤ 132108
+    tallied-few v =
         omega (
           arith,
           p .sum,
           mul-le-mul-right (t .steps + numberFrom t (getD (t .ends) 0 0)) (ready .some),
-          demands-number t (ready .sound .good) k,
-          demands-bounded t k (ready .sound .good) (ready .few),
+          demands-number t (ready .sound .good) v k,
+          demands-bounded t v k (ready .sound .good) (ready .few),
         )
 
-    pub tallied-done : guardsEnd t ≤ place → k * n + t .clocks ≡ length (demandsOf t k)
-    tallied-done l =
+    pub tallied-done : (v : Start) → guardsEnd t ≤ place
+        → k * n + t .clocks * (1 + partnersOf v) ≡ length (demandsOf t v k)
+    tallied-done v l =
         let e : place ≡ guardsEnd t = omega (arith, p .last) in
         let none : numberFrom t place ≡ 0 =
         ap (numberFrom t) e ∙ ap guardsNumber (slice-empty (guardsEnd t) (t .guards)) ∙ guards-nil in
         let all : n ≡ t .steps + numberFrom t (getD (t .ends) 0 0) = omega (arith, p .sum) in
-        ap (λ m. k * m + t .clocks) all ∙ sym (demands-number t (ready .sound .good) k)
+        ap (λ m. k * m + t .clocks * (1 + partnersOf v)) all ∙ sym (demands-number t (ready .sound .good) v k)
 
     -- one guard more
     pub tallied-next : (d : Guard) {m : ℕ} → place < guardsEnd t → m ≡ guardNumber (getD (t .guards) place d .relation)

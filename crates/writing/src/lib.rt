@@ -1,4 +1,5 @@
 // The demands of k rounds of a table by value: how many they are, and all of them written to a row.
+use runs::Start;
 use table::Relation;
 use table::Table;
 ghost use mathlib.Core.Path.{_≡_};
@@ -16,10 +17,11 @@ fn guard_number(relation: Relation) -> usize
     if constraints::twice(relation) { 2 } else { 1 }
 }
 
-// The number of demands of k rounds: in each, one for each step and those of its guards; and one for each clock.
-pub fn count(t: Table, k: usize) -> usize
+// The number of demands of k rounds: in each, one for each step and those of its guards; and for each clock one and its
+// partners.
+pub fn count(t: Table, start: Start, k: usize) -> usize
     requires { ⌜ Ready t k ⌝ }
-    ensures { λ r. ⌜ r ≡ length (demandsOf t k) ⌝ }
+    ensures { λ r. ⌜ r ≡ length (demandsOf t start k) ⌝ }
 {
     let steps = t.steps;
     let end = t.ends[steps];
@@ -31,14 +33,14 @@ pub fn count(t: Table, k: usize) -> usize
         n += guard_number(relation);
         place += 1;
     }
-    k * n + t.clocks
+    k * n + t.clocks * (1 + constraints::partners(start))
 }
 
 // Writes all demands of k rounds to the row: of each step the order demand and those of its guards, then those of the
 // starts. So many steps are past, and step s of the table is next, with its order demand or with the guard at place g.
-pub fn write(t: Table, k: usize, row: &mut [i64])
-    requires { ⌜ Ready t k × (4 * length (demandsOf t k) ≤ length (now row)) ⌝ }
-    ensures { λ _. ⌜ now (row .exit) ≡ over (cells (demandsOf t k)) (now (row .entry)) ⌝ }
+pub fn write(t: Table, start: Start, k: usize, row: &mut [i64])
+    requires { ⌜ Ready t k × (4 * length (demandsOf t start k) ≤ length (now row)) ⌝ }
+    ensures { λ _. ⌜ now (row .exit) ≡ over (cells (demandsOf t start k)) (now (row .entry)) ⌝ }
 {
     let flags = t.resets;
     let total = k * t.steps;
@@ -67,5 +69,5 @@ pub fn write(t: Table, k: usize, row: &mut [i64])
         past += 1;
         order = true;
     }
-    cells::put_starts(row, q, t.clocks, total);
+    cells::put_starts(row, q, start, t.clocks, total);
 }

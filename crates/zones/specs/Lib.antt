@@ -10,3 +10,4 @@ pub mod Linear
 pub mod Codes
 pub mod Cells
 pub mod Building
+pub mod Lines

@@ -1,8 +1,9 @@
 // Difference bound matrices in a lent row of 441 cells, 21 for each of up to 21 vertices: codes of bounds, and bounds put in.
 ghost use mathlib.Core.Path.{_≡_};
-ghost use Prim.Native.Nat.{_*_, _<_, _≤_, min};
+ghost use Prim.Native.Nat.{_+_, _*_, _<_, _≤_, min};
 ghost use lib.ListN.{length};
 ghost use Rattle.zones.specs.Cells.{Clear, Diagonal, tightenOf};
+ghost use Rattle.zones.specs.Lines.{LineTo};
 
 // The code of no bound.
 pub const NONE: u64 = 4611686018427387904;
@@ -54,4 +55,17 @@ pub fn tighten(cells: &mut [u64], a: usize, b: usize, e: u64)
     let at = a * 21 + b;
     let old = cells[at];
     cells[at] = tighter(old, e);
+}
+
+// Copies `size` codes of `other` from index `from` on into the row, from index `to` on.
+pub fn copy_line(row: &mut [u64], other: &[u64], to: usize, from: usize, size: usize)
+    requires { ⌜ (length (now row) ≤ 4900) × (length (now other) ≤ 4900) × (to + size ≤ length (now row))
+        × (from + size ≤ length (now other)) ⌝ }
+    ensures { λ _. ⌜ LineTo to from size (now (other .entry)) (now (row .entry)) (now (row .exit)) ⌝ }
+{
+    let mut c: usize = 0;
+    while c < size {
+        row[to + c] = other[from + c];
+        c += 1;
+    }
 }

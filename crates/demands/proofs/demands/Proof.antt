@@ -19,8 +19,8 @@ returns c =
     let rows = c .before .rows .ensures in
     let row = args .row .now in
     let same : min (rowRoom row) (rowRoom row) ≡ rowRoom row = omega arith in (
-      rows .0 ∙ ap (listedOf (args .bytes .now) (args .k)) same,
-      rows .1 ∙ ap (λ m. rowOf (args .bytes .now) (args .k) m row) same,
+      rows .0 ∙ ap (listedOf (args .bytes .now) (args .start) (args .k)) same,
+      rows .1 ∙ ap (λ m. rowOf (args .bytes .now) (args .start) (args .k) m row) same,
     )
 
 pub demands-spec : {M : Type 1} → statement M

@@ -29,7 +29,7 @@ answer-requires c κs =
 
 returns : tie.Need-returns
 returns c =
-    rows-refused _ _ _ _ _ (sym (c .before .before .before .before .parse .ensures .0) ∙ c .before .read .given .1)
+    rows-refused _ _ _ _ _ _ (sym (c .before .before .before .before .parse .ensures .0) ∙ c .before .read .given .1)
 
 same-length : tie.Need-same-length
 same-length c = search needs
@@ -41,7 +41,7 @@ returns-2 c =
     let args = parsed .before .before .args in
     rows-counted _ (bytes (parsed .before)) (sym (parsed .parse .ensures .0) ∙ told .enum-told .given .1)
     (parsed .parse .ensures .1)
-    (args .k) (min (rowRoom (args .row .now)) (args .limit)) (args .row .now)
+    (args .start) (args .k) (min (rowRoom (args .row .now)) (args .limit)) (args .row .now)
     (c .before .answer .ensures .0) (c .before .answer .ensures .1)
 
 pub rows-spec : {M : Type 1} → statement M

@@ -7,10 +7,10 @@ use Rattle.demands_test.proofs.main.Statement.{statement}
 use Rattle.demands_test.proofs.main.Tie as tie
 
 abbrev Inv-loop : tie.InvT-loop
-Inv-loop cases i₀ i = (i ≤ 14) × (length cases ≡ 14)
+Inv-loop cases i₀ i = (i ≤ 23) × (length cases ≡ 23)
 
 abbrev μ-loop : tie.MeasureT-loop
-μ-loop cases i₀ i = 14 - i
+μ-loop cases i₀ i = 23 - i
 
 loop-holds : tie.Need-loop-holds Inv-loop μ-loop
 loop-holds c = search needs
@@ -20,6 +20,9 @@ mul-c c = search needs
 
 array-copy-out-c : tie.Need-array-copy-out-c Inv-loop μ-loop
 array-copy-out-c c = search needs
+
+start-of-requires : tie.Need-start-of-requires Inv-loop μ-loop
+start-of-requires c κs = search needs
 
 array-read-show : tie.Need-array-read-show Inv-loop μ-loop
 array-read-show c = search needs
@@ -32,6 +35,9 @@ array-read-show-3 c = search needs
 
 array-read-show-4 : tie.Need-array-read-show-4 Inv-loop μ-loop
 array-read-show-4 c = search needs
+
+sized-requires : tie.Need-sized-requires Inv-loop μ-loop
+sized-requires c κs = search needs
 
 show-requires : tie.Need-show-requires Inv-loop μ-loop
 show-requires c κs = search needs
@@ -57,10 +63,12 @@ main-spec =
     loop-holds
     mul-c
     array-copy-out-c
+    start-of-requires
     array-read-show
     array-read-show-2
     array-read-show-3
     array-read-show-4
+    sized-requires
     show-requires
     add-i
     loop-less

@@ -19,20 +19,20 @@ add-size c = search needs
 loop-holds : tie.Need-loop-holds Inv-loop μ-loop
 loop-holds c = (search needs, search needs, lines-none _ _ _ _ (c .before .before .pre .0))
 
-mul-keep-line : tie.Need-mul-keep-line Inv-loop μ-loop
-mul-keep-line c = search needs
+mul-copy-line : tie.Need-mul-copy-line Inv-loop μ-loop
+mul-copy-line c = search needs
 
-mul-keep-line-2 : tie.Need-mul-keep-line-2 Inv-loop μ-loop
-mul-keep-line-2 c = search needs
+mul-copy-line-2 : tie.Need-mul-copy-line-2 Inv-loop μ-loop
+mul-copy-line-2 c = search needs
 
-add-keep-line : tie.Need-add-keep-line Inv-loop μ-loop
-add-keep-line c = search needs
+add-copy-line : tie.Need-add-copy-line Inv-loop μ-loop
+add-copy-line c = search needs
 
-mul-keep-line-3 : tie.Need-mul-keep-line-3 Inv-loop μ-loop
-mul-keep-line-3 c = search needs
+mul-copy-line-3 : tie.Need-mul-copy-line-3 Inv-loop μ-loop
+mul-copy-line-3 c = search needs
 
-keep-line-requires : tie.Need-keep-line-requires Inv-loop μ-loop
-keep-line-requires c κs = search needs
+copy-line-requires : tie.Need-copy-line-requires Inv-loop μ-loop
+copy-line-requires c κs = search needs
 
 add-r : tie.Need-add-r Inv-loop μ-loop
 add-r c = search needs
@@ -46,7 +46,7 @@ loop-again c =
       search needs,
       search needs,
       lines-more _ _ _ _ _ _ _ (omega arith) (omega arith) (h .loop .inv .2)
-          (rw (h .loop .inv .0) at (c .before .before .keep-line .ensures)),
+          (rw (h .loop .inv .0) at (c .before .before .copy-line .ensures)),
     )
 
 same-length : tie.Need-same-length Inv-loop μ-loop
@@ -67,11 +67,11 @@ keep-spec =
     μ-loop
     add-size
     loop-holds
-    mul-keep-line
-    mul-keep-line-2
-    add-keep-line
-    mul-keep-line-3
-    keep-line-requires
+    mul-copy-line
+    mul-copy-line-2
+    add-copy-line
+    mul-copy-line-3
+    copy-line-requires
     add-r
     loop-less
     loop-again

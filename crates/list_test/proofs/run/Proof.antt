@@ -52,6 +52,9 @@ use denote.Triple.Walked.{goes-gave-slice, Walks, ends-at, walked, walk-meets}
 use denote.Exit.{yes}
 use denote.Signature.{plain}
 use borrow.Table.Elements.{length-take-le, same-len}
+use Rattle.runs.specs.declared.Start.{Start}
+use Rattle.runs.proofs.Start as B
+use Rattle.runs.proofs.Start.Laws as B′
 use Rattle.demands.specs.Listed.{listedOf, rowOf}
 use Rattle.demands.specs.declared.Listed.{Listed}
 use Rattle.demands.proofs.Listed as S
@@ -98,8 +101,11 @@ abbrev stayed : Stays (f.ended .signature .params) (f.ended .kept)
 stayed = (
   stay-none-slice (0 ∷ []) tt (plain (λ _. u8)) yes,
   (
-    stay-none (λ _. u64) yes,
-    (gave-slice (1 ∷ []) tt (plain (λ _. i64)), (stay-none (λ _. Lines) yes, (stay-none (λ _. usize) yes, tt))),
+    stay-none (λ _. B.the-row) yes,
+    (
+      stay-none (λ _. u64) yes,
+      (gave-slice (1 ∷ []) tt (plain (λ _. i64)), (stay-none (λ _. Lines) yes, (stay-none (λ _. usize) yes, tt))),
+    ),
   ),
 )
 
@@ -110,9 +116,10 @@ module _ {M : Type 1} (𝓤 : URA M) (H : Heap 𝓤) (A : Atoms 𝓤) (at-mem : 
 
 module _ {M : Type 1} (𝓤 : URA M) (H : Heap 𝓤) (A : Atoms 𝓤) (W : Given 𝓤 H A) (at-mem : Memory
     → SProp 𝓤) (run : Routine → Fun 𝓤)
-    (κ₀ κ : Lft) (q₀ q : Share) (b₀ o₀ : ℕ) (γ₀ : GName) (bs : List ℕ) (k : ℕ)
-    (b o : ℕ) (γ : GName) (xs : List ℤ) (ls : List Line) (v : Val) (n : ℕ)
-    (room₀ : Room u8 (length bs)) (k-fits : k < 2 ^ 64) (room : Room i64 (length xs)) (lines-are : Is Lines ls (v ∷ []))
+    (κ₀ κ : Lft) (q₀ q : Share) (b₀ o₀ : ℕ) (γ₀ : GName) (bs : List ℕ) (v : Start) (k : ℕ)
+    (b o : ℕ) (γ : GName) (xs : List ℤ) (ls : List Line) (lv : Val) (n : ℕ)
+    (room₀ : Room u8 (length bs)) (v-is : Is B.the-row v (only (EL.vals B.the-type B′.the-laws v) ∷ []))
+    (k-fits : k < 2 ^ 64) (room : Room i64 (length xs)) (lines-are : Is Lines ls (lv ∷ []))
     (n-fits : n < 2 ^ 64) (able : n ≤ 13) where
   abbrev x₀ : RefT (List ℕ)
   x₀ = record { ptr = (b₀, o₀); name = γ₀; now = bs }
@@ -125,10 +132,10 @@ module _ {M : Type 1} (𝓤 : URA M) (H : Heap 𝓤) (A : Atoms 𝓤) (W : Given
   y l δ = record { ptr = (l, 0); name = δ; now = take n ls }
 
   abbrev Arg : Type 0
-  Arg = RefT (List ℕ) × (ℕ × (RefT (List ℤ) × (List Line × (ℕ × Unit {0}))))
+  Arg = RefT (List ℕ) × (Start × (ℕ × (RefT (List ℤ) × (List Line × (ℕ × Unit {0})))))
 
   abbrev a : Arg
-  a = (x₀, (k, (x, (ls, (n, tt)))))
+  a = (x₀, (v, (k, (x, (ls, (n, tt))))))
 
   -- the machine values
   abbrev s₀ : Val
@@ -136,6 +143,9 @@ module _ {M : Type 1} (𝓤 : URA M) (H : Heap 𝓤) (A : Atoms 𝓤) (W : Given
 
   abbrev s : Val
   s = sliceVal (b, o) (length xs)
+
+  abbrev vv : Val
+  vv = only (EL.vals B.the-type B′.the-laws v)
 
   abbrev kv : Val
   kv = vint w64 k
@@ -149,8 +159,8 @@ module _ {M : Type 1} (𝓤 : URA M) (H : Heap 𝓤) (A : Atoms 𝓤) (W : Given
   abbrev lined : List Line → Val
   lined zs = spelled spell zs
 
-  abbrev vals : List Val × (List Val × (List Val × (List Val × (List Val × Unit {0}))))
-  vals = (s₀ ∷ [], (kv ∷ [], (s ∷ [], (v ∷ [], (nv ∷ [], tt)))))
+  abbrev vals : List Val × (List Val × (List Val × (List Val × (List Val × (List Val × Unit {0})))))
+  vals = (s₀ ∷ [], (vv ∷ [], (kv ∷ [], (s ∷ [], (lv ∷ [], (nv ∷ [], tt))))))
 
   -- what the bytes own, and the row
   abbrev Own : Fml
@@ -166,8 +176,8 @@ module _ {M : Type 1} (𝓤 : URA M) (H : Heap 𝓤) (A : Atoms 𝓤) (W : Given
 
   -- what `demand_list` ensures
   abbrev Written : Listed → List ℤ → List Line → Type 0
-  Written r zs ys = (r ≡ listedOf bs k (listRoom xs (take n ls))) × (zs ≡ rowOf bs k (listRoom xs (take n ls)) xs)
-      × (ys ≡ listOf bs k (listRoom xs (take n ls)) (take n ls))
+  Written r zs ys = (r ≡ listedOf bs v k (listRoom xs (take n ls))) × (zs ≡ rowOf bs v k (listRoom xs (take n ls)) xs)
+      × (ys ≡ listOf bs v k (listRoom xs (take n ls)) (take n ls))
 
   full : length ls ≡ 13
   full = lines-are .1 .0 .1
@@ -197,13 +207,15 @@ module _ {M : Type 1} (𝓤 : URA M) (H : Heap 𝓤) (A : Atoms 𝓤) (W : Given
       suffices ! _
       (ends-at 𝓤 H A f.ended stayed (f.clauses 𝓤 H A at-mem run) W
       (((κ₀, (κ, tt)), (q₀, (q, tt)), tt, a, vals), tt) (out r (ys ++ rest n ls)) (done-of r (ys ++ rest n ls))
-      (tt, (tt, (zs, (tt, (tt, tt))))) (tt, (tt, (l, (tt, (tt, tt)))))) $
+      (tt, (tt, (tt, (zs, (tt, (tt, tt)))))) (tt, (tt, (tt, (l, (tt, (tt, tt))))))) $
       says ! (e .0, e .1, ap (λ (us : List Line). us ++ rest n ls) (e .2)) $
       nothing ! $ move ! (4 ∷ 0 ∷ []) $ join ! $ move ! (1 ∷ 0 ∷ []) $ join ! $ frame ! $
       nothing ! $ owned ! usize (Is usize) (uint-makes 𝓤 H A W w64) n _ (refl, n-fits) $ fjoin ! $
       owned ! Lines (Is Lines) (array-makes 𝓤 H A W R (LL.makes D.the-type D′.the-plain 𝓤 H A) 13) ls _ lines-are $
       fjoin ! $ move ! (2 ∷ 0 ∷ []) $ fjoin ! $
-      owned ! u64 (Is u64) (uint-makes 𝓤 H A W w64) k _ (refl, k-fits) $ fjoin ! $ move ! (1 ∷ 0 ∷ []) $ fjoin ! $
+      owned ! u64 (Is u64) (uint-makes 𝓤 H A W w64) k _ (refl, k-fits) $ fjoin ! $
+      owned ! B.the-row (Is B.the-row) (EL.makes B.the-type B′.the-plain 𝓤 H A) v _ v-is $ fjoin ! $
+      move ! (1 ∷ 0 ∷ []) $ fjoin ! $
       owned ! T.the-row (Is T.the-row) (LL.makes T.the-type T′.the-plain 𝓤 H A) (done-of r (ys ++ rest n ls)) _ is $
       move ! (1 ∷ 0 ∷ []) $ done !
 
@@ -214,8 +226,8 @@ module _ {M : Type 1} (𝓤 : URA M) (H : Heap 𝓤) (A : Atoms 𝓤) (W : Given
       (κ₀, (κ, (ν ∷ [], tt))),
       (q₀, (q, (fullShare, tt))),
       tt,
-      (x₀, (k, (x, (y l δ, tt)))),
-      (s₀ ∷ [], (kv ∷ [], (s ∷ [], (sliceVal (l, 0) n ∷ [], tt)))),
+      (x₀, (v, (k, (x, (y l δ, tt))))),
+      (s₀ ∷ [], (vv ∷ [], (kv ∷ [], (s ∷ [], (sliceVal (l, 0) n ∷ [], tt))))),
     ),
     tt,
   )
@@ -233,6 +245,7 @@ module _ {M : Type 1} (𝓤 : URA M) (H : Heap 𝓤) (A : Atoms 𝓤) (W : Given
       move ! (1 ∷ 0 ∷ []) $ join ! $ move ! (2 ∷ []) $ split ! $
       nothing ! $ move ! (2 ∷ 0 ∷ []) $ fjoin ! $ move ! (1 ∷ 0 ∷ []) $ fjoin ! $
       owned ! u64 (Is u64) (uint-makes 𝓤 H A W w64) k _ (refl, k-fits) $ fjoin ! $
+      owned ! B.the-row (Is B.the-row) (EL.makes B.the-type B′.the-plain 𝓤 H A) v _ v-is $ fjoin ! $
       move ! (2 ∷ 0 ∷ []) $ fjoin ! $ move ! (1 ∷ 0 ∷ []) $ join ! $ nothing ! $ move ! (1 ∷ 0 ∷ []) $ done !
 
   spelt : (r : Listed) (w : Val) → Is S.the-row r (w ∷ []) → Is S.the-row r (mach r ∷ [])
@@ -244,23 +257,24 @@ module _ {M : Type 1} (𝓤 : URA M) (H : Heap 𝓤) (A : Atoms 𝓤) (W : Given
   module _ (C : Calls 𝓤 H) (Λ : Loops 𝓤 H) (fm : FmC 𝓤 H (W .laws) C)
       (known : Triple 𝓤 (C #demand-list·demand-list) (Lists 𝓤 H A at-mem run)) where
     walk : ent 𝓤 (onEntry 𝓤 H A f.signature (κ₀, (κ, tt)) (q₀, (q, tt)) a vals)
-        (WpFn 𝓤 H C Λ code.function (s₀ ∷ kv ∷ s ∷ v ∷ nv ∷ []) Post)
+        (WpFn 𝓤 H C Λ code.function (s₀ ∷ vv ∷ kv ∷ s ∷ lv ∷ nv ∷ []) Post)
     walk =
         qed W ((‵ (flft κ₀ q₀) ⊛ ‵ (flft κ q) ⊛ ‵ ftrue)
-        ∷ ‵ (owns (ShrSlice (named 0) κ₀ u8 ∷ u64 ∷ MutSlice (named 1) κ i64 ∷ Lines ∷ usize ∷ []) a vals)
+        ∷ ‵ (owns (ShrSlice (named 0) κ₀ u8 ∷ B.the-row ∷ u64 ∷ MutSlice (named 1) κ i64 ∷ Lines ∷ usize ∷ []) a vals)
         ∷ []) ∵
-        enter ! C Λ code.function (s₀ ∷ kv ∷ s ∷ v ∷ nv ∷ []) _ $
+        enter ! C Λ code.function (s₀ ∷ vv ∷ kv ∷ s ∷ lv ∷ nv ∷ []) _ $
         alloc1 ! (λ l₀. alloc1 ! (λ l₁. alloc1 ! (λ l₂. alloc1 ! (λ l₃. alloc1 ! (λ l₄. alloc1 ! (λ l₅. alloc1 !
         (λ l₆. alloc1 ! (λ l₇. alloc1 ! (λ l₈. alloc1 ! (λ l₉. alloc1 ! (λ l₁₀. alloc1 ! (λ l₁₁. alloc1 ! (λ l₁₂.
-        alloc0 ! $ params1 ! $
-        pass1 ! (init ! 22 refl (tt, (tt, (record { fits = room₀ .0 }, tt)))) $
+        alloc1 ! (λ l₁₃. alloc0 ! $ params1 ! $
+        pass1 ! (init ! 24 refl (tt, (tt, (record { fits = room₀ .0 }, tt)))) $
+        pass1 ! (init ! 22 refl (EL.lawful B.the-type B′.the-laws 𝓤 H A W tt .typed v _ v-is .0)) $
         pass1 ! (init ! 20 refl (tt, record { fits = k-fits })) $
         pass1 ! (init ! 18 refl (tt, (tt, (record { fits = room .0 }, tt)))) $
-        pass1 ! (init ! 16 refl (typed ls v lines-are)) $
+        pass1 ! (init ! 16 refl (typed ls lv lines-are)) $
         pass1 ! (init ! 14 refl (tt, record { fits = n-fits })) $ pass0 ! $
-        -- [_12; …; _6 at 12; …; _0 at 24; …; the tokens; what the parameters own]
+        -- [_13; …; _7 at 12; …; _0 at 26; …; the tokens; what the parameters own]
         assigns ! (of-opd ! (load ! (from ! (stop !)) (look ! 16 refl))) (from ! (stop !))
-        (init ! 12 refl (typed ls v lines-are)) $
+        (init ! 12 refl (typed ls lv lines-are)) $
         assigns ! (addr ! (from ! (fld ! refl (hop ! (look-in ! 18 (sub ! 0 refl (whole !))) (stop !))))) (from !
         (stop !))
         (init ! 8 refl (tt, tt)) $
@@ -274,76 +288,76 @@ module _ {M : Type 1} (𝓤 : URA M) (H : Heap 𝓤) (A : Atoms 𝓤) (W : Given
         (init ! 2 refl (tt, (tt, (record { fits = n-fits }, tt)))) $
         -- the first n records are lent for a lifetime ν of the call
         move ! (12 ∷ []) $
-        use1 W (‵ (cells (mem R) (take n ls) l₆ 0)
-        ⊛ ‵ (cells (mem R) (rest n ls) l₆ (after R (length (take n ls)))))
-        (fronted 𝓤 H A W R 13 l₆ tt (LL.makes D.the-type D′.the-plain 𝓤 H A) n ls v lines-are) $ split ! $
+        use1 W (‵ (cells (mem R) (take n ls) l₇ 0)
+        ⊛ ‵ (cells (mem R) (rest n ls) l₇ (after R (length (take n ls)))))
+        (fronted 𝓤 H A W R 13 l₇ tt (LL.makes D.the-type D′.the-plain 𝓤 H A) n ls lv lines-are) $ split ! $
         lft-new ! tt (λ ν. move ! (1 ∷ []) $
         use1 W (later (some (λ (δ : GName).
-        ‵ (MutSlice (named 2) (ν ∷ []) R .own (y l₆ δ) (sliceVal (l₆, 0) (length (take n ls)) ∷ []))
-        ⊛ ‵ (flent (ν ∷ []) (Held R (length (take n ls)) l₆ 0 δ)))))
-        (lends-slice 𝓤 H A W R (named 2) (ν ∷ []) (take n ls) l₆ 0 front-room) $ await ! tt $ pick ! (λ δ. split ! $
-        rewrite ! 0 (λ (m : ℕ). ‵ (MutSlice (named 2) (ν ∷ []) R .own (y l₆ δ) (sliceVal (l₆, 0) m ∷ []))) front refl $
-        -- [the list; the lender's part; ν's token; the other records; _12; …; _7 at 14; …; (_6's right at 16); …]
-        move ! (29 ∷ []) $ split ! $ move ! (1 ∷ []) $ split ! $ move ! (32 ∷ []) $ fsplit ! $ move ! (1 ∷ []) $
-        fsplit ! $ move ! (1 ∷ []) $ fsplit ! $ move ! (3 ∷ []) $
+        ‵ (MutSlice (named 2) (ν ∷ []) R .own (y l₇ δ) (sliceVal (l₇, 0) (length (take n ls)) ∷ []))
+        ⊛ ‵ (flent (ν ∷ []) (Held R (length (take n ls)) l₇ 0 δ)))))
+        (lends-slice 𝓤 H A W R (named 2) (ν ∷ []) (take n ls) l₇ 0 front-room) $ await ! tt $ pick ! (λ δ. split ! $
+        rewrite ! 0 (λ (m : ℕ). ‵ (MutSlice (named 2) (ν ∷ []) R .own (y l₇ δ) (sliceVal (l₇, 0) m ∷ []))) front refl $
+        -- [the list; the lender's part; ν's token; the other records; _13; …; _8 at 14; …; (_7's right at 16); …]
+        move ! (31 ∷ []) $ split ! $ move ! (1 ∷ []) $ split ! $ move ! (34 ∷ []) $ fsplit ! $ move ! (1 ∷ []) $
+        fsplit ! $ drop ! $ fsplit ! $ move ! (1 ∷ []) $ fsplit ! $ move ! (3 ∷ []) $
         use1 W (‵ Own ⊛ ‵ Own) (shr-slice-copy 𝓤 H A W (named 0) κ₀ u8 .twice x₀ (s₀ ∷ [])) $ split ! $
         -- [what the bytes own, twice; the row's; …; k's; the row's token; true; the bytes'; the list; the lender's part; ν's
-        -- token; the other records; _12 at 12; …]
+        -- token; the other records; _13 at 12; …]
         move ! (2 ∷ 8 ∷ []) $ join ! $ move ! (5 ∷ 9 ∷ []) $ join ! $ move ! (7 ∷ 0 ∷ []) $ join ! $
-        move ! (0 ∷ 2 ∷ 1 ∷ []) $ use3 W (raw (Lists 𝓤 H A at-mem run .pre (to-list l₆ ν δ))) (asks l₆ ν δ) $
-        -- [what `demand_list` asks; what the bytes own; …; k's; true; the lender's part; the other records; _12 at 7; …]
-        calls-at ! fm (Lists 𝓤 H A at-mem run) known (to-list l₆ ν δ)
-        (and-then ! (load ! (from ! (stop !)) (look ! 28 refl)) (and-then ! (load ! (from ! (stop !)) (look ! 26 refl))
-        (and-then ! (load ! (from ! (stop !)) (look ! 13 refl)) (and-then ! (load ! (from ! (stop !)) (look ! 9 refl))
-        (no-more !))))) (λ w.
+        move ! (0 ∷ 2 ∷ 1 ∷ []) $ use3 W (raw (Lists 𝓤 H A at-mem run .pre (to-list l₇ ν δ))) (asks l₇ ν δ) $
+        -- [what `demand_list` asks; what the bytes own; …; k's; true; the lender's part; the other records; _13 at 7; …]
+        calls-at ! fm (Lists 𝓤 H A at-mem run) known (to-list l₇ ν δ)
+        (and-then ! (load ! (from ! (stop !)) (look ! 30 refl)) (and-then ! (load ! (from ! (stop !)) (look ! 28 refl))
+        (and-then ! (load ! (from ! (stop !)) (look ! 26 refl)) (and-then ! (load ! (from ! (stop !)) (look ! 13 refl))
+        (and-then ! (load ! (from ! (stop !)) (look ! 9 refl)) (no-more !)))))) (λ w.
         use1 W (later (some (λ (r : Listed).
         ((‵ (flft κ₀ q₀) ⊛ ‵ (flft κ q) ⊛ ‵ (flft (ν ∷ []) fullShare) ⊛ ‵ ftrue) ⊛ ‵ (S.the-row .own r (w ∷ [])))
         ⊛ raw (ensured 𝓤 H A list.ended (list.clauses 𝓤 H A at-mem run) (κ₀, (κ, (ν ∷ [], tt)))
-        (x₀, (k, (x, (y l₆ δ, tt)))) tt r)))) (id⊢ 𝓤 _) $ await ! tt $ pick ! (λ r.
+        (x₀, (v, (k, (x, (y l₇ δ, tt))))) tt r)))) (id⊢ 𝓤 _) $ await ! tt $ pick ! (λ r.
         split ! $ move ! (1 ∷ []) $
-        use1 W (some (λ (zs : Unit {0} × (Unit {0} × (List ℤ × (List Line × Unit {0})))).
-        ‵ (lasts list.ended (κ₀, (κ, (ν ∷ [], tt))) (x₀, (k, (x, (y l₆ δ, tt)))) zs)
-        ⊛ raw (fact 𝓤 (Written r (zs .1 .1 .0) (zs .1 .1 .1 .0))))) (id⊢ 𝓤 _) $ pick ! (λ zs.
-        split ! $ move ! (1 ∷ []) $ heard ! (Written r (zs .1 .1 .0) (zs .1 .1 .1 .0)) (λ e.
-        fsplit ! $ drop ! $ fsplit ! $ drop ! $ fsplit ! $ fsplit ! $ move ! (1 ∷ []) $ feqL ! (λ l.
+        use1 W (some (λ (zs : Unit {0} × (Unit {0} × (Unit {0} × (List ℤ × (List Line × Unit {0}))))).
+        ‵ (lasts list.ended (κ₀, (κ, (ν ∷ [], tt))) (x₀, (v, (k, (x, (y l₇ δ, tt))))) zs)
+        ⊛ raw (fact 𝓤 (Written r (zs .1 .1 .1 .0) (zs .1 .1 .1 .1 .0))))) (id⊢ 𝓤 _) $ pick ! (λ zs.
+        split ! $ move ! (1 ∷ []) $ heard ! (Written r (zs .1 .1 .1 .0) (zs .1 .1 .1 .1 .0)) (λ e.
+        fsplit ! $ drop ! $ fsplit ! $ drop ! $ fsplit ! $ drop ! $ fsplit ! $ fsplit ! $ move ! (1 ∷ []) $ feqL ! (λ l.
         move ! (1 ∷ []) $ fsplit ! $ fsplit ! $ move ! (1 ∷ []) $ feqL ! (λ l′.
         move ! (3 ∷ []) $ split ! $ move ! (1 ∷ []) $
         peeks ! S.the-row (Is S.the-row) (shows 𝓤 H A S.the-row) r (w ∷ []) (λ is.
         -- [the answer; the tokens; the list's last list; true; the row's; what the bytes own; …; k's; true; the lender's
-        -- part; the other records; _12 at 11; …]
+        -- part; the other records; _13 at 11; …]
         land ! (from ! (stop !)) (init ! 21 refl (EL.lawful S.the-type S′.the-laws 𝓤 H A W tt .typed r _ is .0)) $
-        rewrite ! 21 (λ (u : Val). ‵ (fat fullShare S′.mir l₇ 0 u)) (ap only
+        rewrite ! 21 (λ (u : Val). ‵ (fat fullShare S′.mir l₈ 0 u)) (ap only
         (EL.tells S.the-type S′.the-laws r _ is)) refl $
         move ! (1 ∷ []) $ split ! $ move ! (1 ∷ []) $ split ! $ move ! (1 ∷ []) $ split ! $ lft-end ! tt $
         move ! (0 ∷ 12 ∷ 5 ∷ []) $
-        use3 W (later (‵ (Arr (mem R) (length (take n ls)) .lies (zs .1 .1 .1 .0) l₆ 0)))
-        (slice-back 𝓤 H A W R (ν ∷ []) δ (zs .1 .1 .1 .0) (length (take n ls)) l₆ 0) $ await ! tt $ fsplit ! $ drop ! $
+        use3 W (later (‵ (Arr (mem R) (length (take n ls)) .lies (zs .1 .1 .1 .1 .0) l₇ 0)))
+        (slice-back 𝓤 H A W R (ν ∷ []) δ (zs .1 .1 .1 .1 .0) (length (take n ls)) l₇ 0) $ await ! tt $ fsplit ! $ drop ! $
         -- [the list's last records; true; the row's token; the bytes'; the answer; true; the row's last list; what the
-        -- bytes own; …; k's; true; the other records; _12 at 12; …]
-        rewrite ! 11 (λ (m : ℕ). ‵ (cells (mem R) (rest n ls) l₆ (after R m))) (sym l′) refl $
+        -- bytes own; …; k's; true; the other records; _13 at 12; …]
+        rewrite ! 11 (λ (m : ℕ). ‵ (cells (mem R) (rest n ls) l₇ (after R m))) (sym l′) refl $
         move ! (0 ∷ 11 ∷ []) $
-        use2 W (given (Is Lines (zs .1 .1 .1 .0 ++ rest n ls) (lined (zs .1 .1 .1 .0 ++ rest n ls) ∷ []))
-        (‵ (fat fullShare (lone (Lines .mir)) l₆ 0 (lined (zs .1 .1 .1 .0 ++ rest n ls)))))
-        (rejoined 𝓤 H A W R 13 l₆ spell (LL.tells D.the-type D′.the-laws) (zs .1 .1 .1 .0) (rest n ls)
-        (same-len n ls (zs .1 .1 .1 .0) l′ ∙ full)) $ learn ! (λ are.
-        -- [_6; true; the row's token; the bytes'; the answer; true; the row's last list; what the bytes own; …; k's; true;
-        -- _12 at 11; …]
+        use2 W (given (Is Lines (zs .1 .1 .1 .1 .0 ++ rest n ls) (lined (zs .1 .1 .1 .1 .0 ++ rest n ls) ∷ []))
+        (‵ (fat fullShare (lone (Lines .mir)) l₇ 0 (lined (zs .1 .1 .1 .1 .0 ++ rest n ls)))))
+        (rejoined 𝓤 H A W R 13 l₇ spell (LL.tells D.the-type D′.the-laws) (zs .1 .1 .1 .1 .0) (rest n ls)
+        (same-len n ls (zs .1 .1 .1 .1 .0) l′ ∙ full)) $ learn ! (λ are.
+        -- [_7; true; the row's token; the bytes'; the answer; true; the row's last list; what the bytes own; …; k's; true;
+        -- _13 at 11; …]
         assigns ! (of-opd ! (load ! (from ! (stop !)) (look ! 0 refl))) (from ! (stop !))
-        (init ! 11 refl (typed (zs .1 .1 .1 .0 ++ rest n ls) _ are)) $
+        (init ! 11 refl (typed (zs .1 .1 .1 .1 .0 ++ rest n ls) _ are)) $
         assigns ! (agg ! (and-then ! (load ! (from ! (stop !)) (look ! 21 refl))
         (and-then ! (load ! (from ! (stop !)) (look ! 11 refl)) (no-more !)))) (from ! (stop !))
-        (init ! 34 refl (LL.lawful T.the-type T′.the-laws 𝓤 H A W .typed (done-of r (zs .1 .1 .1 .0 ++ rest n ls)) _
-        (made r (zs .1 .1 .1 .0 ++ rest n ls) (spelt r w is) are) .0)) $
-        returns ! (look ! 34 refl) $ forget ! 0 refl $ forget ! 11 refl $ forget ! 13 refl $ forget ! 15 refl $
+        (init ! 36 refl (LL.lawful T.the-type T′.the-laws 𝓤 H A W .typed (done-of r (zs .1 .1 .1 .1 .0 ++ rest n ls)) _
+        (made r (zs .1 .1 .1 .1 .0 ++ rest n ls) (spelt r w is) are) .0)) $
+        returns ! (look ! 36 refl) $ forget ! 0 refl $ forget ! 11 refl $ forget ! 13 refl $ forget ! 15 refl $
         forget ! 17 refl $ forget ! 19 refl $ forget ! 21 refl $ forget ! 24 refl $ forget ! 26 refl $
-        forget ! 28 refl $ forget ! 30 refl $ forget ! 32 refl $ forget ! 34 refl $
-        move ! (34 ∷ 35 ∷ []) $ free1 ! $ move ! (32 ∷ 33 ∷ []) $ free1 ! $ move ! (30 ∷ 31 ∷ []) $ free1 ! $
+        forget ! 28 refl $ forget ! 30 refl $ forget ! 32 refl $ forget ! 34 refl $ forget ! 36 refl $
+        move ! (36 ∷ 37 ∷ []) $ free1 ! $ move ! (34 ∷ 35 ∷ []) $ free1 ! $ move ! (32 ∷ 33 ∷ []) $ free1 ! $ move ! (30 ∷ 31 ∷ []) $ free1 ! $
         move ! (28 ∷ 29 ∷ []) $ free1 ! $ move ! (26 ∷ 27 ∷ []) $ free1 ! $ move ! (24 ∷ 25 ∷ []) $ free1 ! $
         move ! (0 ∷ 23 ∷ []) $ free1 ! $ move ! (20 ∷ 21 ∷ []) $ free1 ! $ move ! (18 ∷ 19 ∷ []) $ free1 ! $
         move ! (16 ∷ 17 ∷ []) $ free1 ! $ move ! (14 ∷ 15 ∷ []) $ free1 ! $ move ! (12 ∷ 13 ∷ []) $ free1 ! $
         move ! (10 ∷ 11 ∷ []) $ free1 ! $ free0 ! $ keep ! (2 ∷ 6 ∷ 5 ∷ 1 ∷ []) $
-        by ! (exits r (zs .1 .1 .0) (zs .1 .1 .1 .0) e l
-        (made r (zs .1 .1 .1 .0 ++ rest n ls) (spelt r w is) are)))))))))))))))))))))))))
+        by ! (exits r (zs .1 .1 .1 .0) (zs .1 .1 .1 .1 .0) e l
+        (made r (zs .1 .1 .1 .1 .0 ++ rest n ls) (spelt r w is) are))))))))))))))))))))))))))
 
 module _ {M : Type 1} (𝓤 : URA M) (H : Heap 𝓤) (A : Atoms 𝓤) (W : Given 𝓤 H A) (at-mem : Memory
     → SProp 𝓤) (run : Routine → Fun 𝓤) where
@@ -352,22 +366,30 @@ module _ {M : Type 1} (𝓤 : URA M) (H : Heap 𝓤) (A : Atoms 𝓤) (W : Given
       → Walks 𝓤 H A f.ended stayed (WpFn 𝓤 H C Λ code.function) (f.clauses 𝓤 H A at-mem run)
   run-walks C Λ fm known =
       walked 𝓤 H A f.ended stayed (f.clauses 𝓤 H A at-mem run) (WpFn 𝓤 H C Λ code.function)
-      (λ κs. (slice-vals, (uint-vals w64, (slice-vals, (array-vals spell, (uint-vals w64, tt))))))
+      (λ κs. (
+        slice-vals,
+        (EL.vals B.the-type B′.the-laws, (uint-vals w64, (slice-vals, (array-vals spell, (uint-vals w64, tt))))),
+      ))
       (λ κs. (
         shr-slice-tells (named 0) (κs .0) u8,
         (
-          uint-tells w64,
+          EL.tells B.the-type B′.the-laws,
           (
-            mut-slice-tells (named 1) (κs .1 .0) i64,
-            (array-tells R spell (LL.tells D.the-type D′.the-laws) 13, (uint-tells w64, tt)),
+            uint-tells w64,
+            (
+              mut-slice-tells (named 1) (κs .1 .0) i64,
+              (array-tells R spell (LL.tells D.the-type D′.the-laws) 13, (uint-tells w64, tt)),
+            ),
           ),
         ),
       ))
-      (λ κs qs bounds a g are. needs 𝓤 (a .1 .1 .1 .1 .0 ≤ 13) _ (λ able.
+      (λ κs qs bounds a g are. needs 𝓤 (a .1 .1 .1 .1 .1 .0 ≤ 13) _ (λ able.
       walk 𝓤 H A W at-mem run (κs .0) (κs .1 .0) (qs .0) (qs .1 .0)
-      (a .0 .ptr .0) (a .0 .ptr .1) (a .0 .name) (a .0 .now) (a .1 .0)
-      (a .1 .1 .0 .ptr .0) (a .1 .1 .0 .ptr .1) (a .1 .1 .0 .name) (a .1 .1 .0 .now) (a .1 .1 .1 .0) _ (a .1 .1 .1 .1 .0)
-      (are .0 .0 .1) (are .1 .0 .1) (are .1 .1 .0 .0 .1) (are .1 .1 .1 .0) (are .1 .1 .1 .1 .0 .1) able C Λ fm known))
+      (a .0 .ptr .0) (a .0 .ptr .1) (a .0 .name) (a .0 .now) (a .1 .0) (a .1 .1 .0)
+      (a .1 .1 .1 .0 .ptr .0) (a .1 .1 .1 .0 .ptr .1) (a .1 .1 .1 .0 .name) (a .1 .1 .1 .0 .now)
+      (a .1 .1 .1 .1 .0) _ (a .1 .1 .1 .1 .1 .0)
+      (are .0 .0 .1) (are .1 .0) (are .1 .1 .0 .1) (are .1 .1 .1 .0 .0 .1) (are .1 .1 .1 .1 .0)
+      (are .1 .1 .1 .1 .1 .0 .1) able C Λ fm known))
 
 run-meets : {M : Type 1} (𝓤 : URA M) (H : Heap 𝓤) (A : Atoms 𝓤) → Given 𝓤 H A → (at-mem : Memory → SProp 𝓤)
     (run : Routine → Fun 𝓤) (𝓣 : Tables 𝓤 H) → Triple 𝓤 (𝓣 .C #demand-list·demand-list) (Lists 𝓤 H A at-mem run)
@@ -376,12 +398,15 @@ run-meets 𝓤 H A W at-mem run 𝓣 known =
     walk-meets 𝓤 H A f.ended stayed W (
       goes-none-slice 𝓤 H A W 2 (0 ∷ []) tt (plain (λ _. u8)) yes,
       (
-        goes-none 𝓤 H A W 2 (λ _. u64) yes (λ κs x f. refl),
+        goes-none 𝓤 H A W 2 (λ _. B.the-row) yes (λ κs x f. refl),
         (
-          goes-gave-slice 𝓤 H A W 2 1 tt (plain (λ _. i64)),
+          goes-none 𝓤 H A W 2 (λ _. u64) yes (λ κs x f. refl),
           (
-            goes-none 𝓤 H A W 2 (λ _. Lines) yes (λ κs x f. refl),
-            (goes-none 𝓤 H A W 2 (λ _. usize) yes (λ κs x f. refl), tt),
+            goes-gave-slice 𝓤 H A W 2 1 tt (plain (λ _. i64)),
+            (
+              goes-none 𝓤 H A W 2 (λ _. Lines) yes (λ κs x f. refl),
+              (goes-none 𝓤 H A W 2 (λ _. usize) yes (λ κs x f. refl), tt),
+            ),
           ),
         ),
       ),

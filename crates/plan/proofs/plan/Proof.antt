@@ -28,7 +28,7 @@ plan-table-requires c κs =
 
 returns : tie.Need-returns
 returns c =
-    refused-answers _ _ _ _ (sym (c .before .before .before .parse .ensures .0) ∙ c .before .answer .given .1)
+    refused-answers _ _ _ _ _ (sym (c .before .before .before .parse .ensures .0) ∙ c .before .answer .given .1)
 
 same-length : tie.Need-same-length
 same-length c = search needs
@@ -50,7 +50,7 @@ returns-2 c =
     c .before .before .before .before .before .before .before .before .before .before .enum-told .given .1)
     _
     (c .before .before .before .before .before .before .before .before .before .before .before .before .parse .ensures .1)
-    _ _ _ _ (c .before .before .before .before .before .before .plan-table .ensures)
+    _ _ _ _ _ (c .before .before .before .before .before .before .plan-table .ensures)
 
 pub plan-spec : {M : Type 1} → statement M
 plan-spec =

@@ -30,7 +30,7 @@ slice-aggregate-solve-here-3 c = search needs
 solve-here-requires : tie.Need-solve-here-requires
 solve-here-requires c κs =
     let s = c .before .before .before .before .before .before .before .before .before .before .before .before .before in
-    rows-ready _ _ (s .pre .0) _ _ _ (c .before .before .before .before .before .before .before .before .keys .ensures) (c .before .before .before .before .before .before .before .keys2 .ensures) (c .before .before .before .before .before .before .distances .ensures) _ _ _ (s .pre .1)
+    rows-ready _ _ _ (s .pre .0) _ _ _ (c .before .before .before .before .before .before .before .before .keys .ensures) (c .before .before .before .before .before .before .before .keys2 .ensures) (c .before .before .before .before .before .before .distances .ensures) _ _ _ (s .pre .1)
 
 add-told : tie.Need-add-told
 add-told c = let z = c .before .before .before .before .before .before .before .before .before .before .before .before .before .before .before .before .before .before .before .before .before .pre .0 in omega (arith, z .few, z .good .clocks-few)
@@ -54,7 +54,7 @@ returns : tie.Need-returns
 returns c =
     let h = c .before .before .before .before .before .before .before .before in
     let s = c .before .before .before .before .before .before .before .before .before .before .before .before .before .before .before .before .before .before .before .before .before .before in
-    rows-answered _ _ (s .pre .0) _ _ _ (c .before .before .before .before .before .before .before .before .before .before .before .before .before .before .before .before .before .keys .ensures) (c .before .before .before .before .before .before .before .before .before .before .before .before .before .before .before .before .keys2 .ensures) (c .before .before .before .before .before .before .before .before .before .before .before .before .before .before .before .distances .ensures) _ _ _ (s .pre .1)
+    rows-answered _ _ _ (s .pre .0) _ _ _ (c .before .before .before .before .before .before .before .before .before .before .before .before .before .before .before .before .before .keys .ensures) (c .before .before .before .before .before .before .before .before .before .before .before .before .before .before .before .before .keys2 .ensures) (c .before .before .before .before .before .before .before .before .before .before .before .before .before .before .before .distances .ensures) _ _ _ (s .pre .1)
     _ _ _ (h .solve-here .result) _ _ (h .solve-here .ensures) refl (c .told .ensures)
 
 pub plan-rounds-spec : {M : Type 1} → statement M

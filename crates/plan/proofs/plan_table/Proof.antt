@@ -16,11 +16,11 @@ enum-told c = search needs
 
 plan-rounds-requires : tie.Need-plan-rounds-requires
 plan-rounds-requires c κs =
-    admit-sized _ _ _ (c .before .before .before .before .before .before .before .before .before .pre) (sym (c .before .before .before .before .before .admit .ensures) ∙ c .before .before .before .enum-told .given .1)
+    admit-sized _ _ _ _ (c .before .before .before .before .before .before .before .before .before .pre) (sym (c .before .before .before .before .before .admit .ensures) ∙ c .before .before .before .enum-told .given .1)
 
 returns : tie.Need-returns
 returns c =
-    meets-refused _ _ _ _ _ _ (sym (c .before .before .before .admit .ensures) ∙ c .before .admission .given .1) refl
+    meets-refused _ _ _ _ _ _ _ (sym (c .before .before .before .admit .ensures) ∙ c .before .admission .given .1) refl
 
 same-length : tie.Need-same-length
 same-length c = search needs
@@ -34,7 +34,7 @@ same-length-3 c = search needs
 returns-2 : tie.Need-returns-2
 returns-2 c =
     let o = c .before .before .before .before .before .before in
-    meets-accepted _ _ _ _ _ (o .plan-rounds .result) (sym (o .before .before .before .before .before .before .admit .ensures) ∙ o .before .before .before .before .enum-told .given .1) (o .plan-rounds .ensures)
+    meets-accepted _ _ _ _ _ _ (o .plan-rounds .result) (sym (o .before .before .before .before .before .before .admit .ensures) ∙ o .before .before .before .before .enum-told .given .1) (o .plan-rounds .ensures)
 
 pub plan-table-spec : {M : Type 1} → statement M
 plan-table-spec =

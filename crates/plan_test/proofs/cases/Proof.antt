@@ -7,10 +7,10 @@ use Rattle.plan_test.proofs.cases.Statement.{statement}
 use Rattle.plan_test.proofs.cases.Tie as tie
 
 abbrev Inv-loop : tie.InvT-loop
-Inv-loop first end sizes from all i₀ i = (end ≤ 24) × (length all ≡ 24)
+Inv-loop start first end sizes from all i₀ i = (end ≤ 41) × (length all ≡ 41)
 
 abbrev μ-loop : tie.MeasureT-loop
-μ-loop first end sizes from all i₀ i = end - i
+μ-loop start first end sizes from all i₀ i = end - i
 
 loop-holds : tie.Need-loop-holds Inv-loop μ-loop
 loop-holds c = search needs

@@ -13,11 +13,11 @@ use Rattle.relaxing.proofs.passes.Statement.{statement}
 use Rattle.relaxing.proofs.passes.Tie as tie
 
 abbrev Inv-loop : tie.InvT-loop
-Inv-loop low up far steps clocks total time₀ parent₀ stamp₀ marks₀ n q₀ m₀ time parent stamp marks q m =
-    Passing (rows low up far steps clocks total) (state time₀ parent₀ stamp₀) m q (state time parent stamp) × (length marks ≡ length marks₀)
+Inv-loop low up far start steps clocks total time₀ parent₀ stamp₀ marks₀ n q₀ m₀ time parent stamp marks q m =
+    Passing (rows low up far start steps clocks total) (state time₀ parent₀ stamp₀) m q (state time parent stamp) × (length marks ≡ length marks₀)
 
 abbrev μ-loop : tie.MeasureT-loop
-μ-loop low up far steps clocks total time₀ parent₀ stamp₀ marks₀ n q₀ m₀ time parent stamp marks q m = n - m
+μ-loop low up far start steps clocks total time₀ parent₀ stamp₀ marks₀ n q₀ m₀ time parent stamp marks q m = n - m
 
 -- ---- places: where the passes began, the loop, the pass just made and the search after it
 abbrev entry : tie.At-loop Inv-loop μ-loop → tie.Start Inv-loop μ-loop

@@ -19,22 +19,22 @@ rounds-of-requires : tie.Need-rounds-of-requires
 rounds-of-requires c κs =
     let p = c .before .before .before in
     let b : Bytes (p .before .before .args .bytes .now) = λ i. omega (arith, p .before .shared-slice-known .given i) in (
-      accepted-good (p .before .before .args .bytes .now) (p .parse .result .answer) (p .parse .ensures .0)
+      accepted-good (p .before .before .args .bytes .now) (p .before .before .args .start) (p .parse .result .answer) (p .parse .ensures .0)
           (p .parse .result .table) (p .parse .ensures .1) b _ _ _ (c .before .enum-told .given .1),
-      accepted-uses (p .before .before .args .bytes .now) (p .parse .result .answer) (p .parse .ensures .0)
+      accepted-uses (p .before .before .args .bytes .now) (p .before .before .args .start) (p .parse .result .answer) (p .parse .ensures .0)
           (p .parse .result .table) (p .parse .ensures .1) b _ _ _ (c .before .enum-told .given .1),
     )
 
 returns : tie.Need-returns
 returns c =
     let p = c .before .before .before in
-    answers-refused (p .before .before .args .bytes .now) (p .parse .result .answer) (p .parse .ensures .0) _
+    answers-refused (p .before .before .args .bytes .now) (p .before .before .args .start) (p .parse .result .answer) (p .parse .ensures .0) _
     (c .before .answer .given .1)
 
 returns-2 : tie.Need-returns-2
 returns-2 c =
     let p = c .before .before .before .before in
-    answers-counted (p .before .before .args .bytes .now) (p .parse .result .answer) (p .parse .ensures .0)
+    answers-counted (p .before .before .args .bytes .now) (p .before .before .args .start) (p .parse .result .answer) (p .parse .ensures .0)
     (p .parse .result .table) (p .parse .ensures .1)
     (λ i. omega (arith, p .before .shared-slice-known .given i)) _ _ _ (c .before .before .enum-told .given .1)
     (c .rounds-of .result) (c .rounds-of .ensures)

@@ -7,10 +7,10 @@ use Rattle.rounds_test.proofs.leads.Statement.{statement}
 use Rattle.rounds_test.proofs.leads.Tie as tie
 
 abbrev Inv-loop : tie.InvT-loop
-Inv-loop relation low high i₀ i = (i ≤ 11) × (length low ≡ 11) × (length high ≡ 11)
+Inv-loop relation start low high i₀ i = (i ≤ 11) × (length low ≡ 11) × (length high ≡ 11)
 
 abbrev μ-loop : tie.MeasureT-loop
-μ-loop relation low high i₀ i = 11 - i
+μ-loop relation start low high i₀ i = 11 - i
 
 loop-holds : tie.Need-loop-holds Inv-loop μ-loop
 loop-holds c = search needs

@@ -7,10 +7,10 @@ use Rattle.rounds_test.proofs.samples.Statement.{statement}
 use Rattle.rounds_test.proofs.samples.Tie as tie
 
 abbrev Inv-loop : tie.InvT-loop
-Inv-loop tape case₀ case = (case ≤ 14) × (length tape ≡ 403)
+Inv-loop start tape case₀ case = (case ≤ 14) × (length tape ≡ 403)
 
 abbrev μ-loop : tie.MeasureT-loop
-μ-loop tape case₀ case = 14 - case
+μ-loop start tape case₀ case = 14 - case
 
 loop-holds : tie.Need-loop-holds Inv-loop μ-loop
 loop-holds c = search needs

@@ -31,7 +31,7 @@ start c = entry (first (second c))
 
 -- the passes begin with the start values
 ready : (c : tie.After-fill3) → Ready
-    (rows (start c .args .low .now) (start c .args .up .now) (start c .args .far .now) (start c .args .steps) (start c .args .clocks)
+    (rows (start c .args .low .now) (start c .args .up .now) (start c .args .far .now) (start c .args .start) (start c .args .steps) (start c .args .clocks)
     (start c .args .total))
     (state (second c .fill2 .last .0) (start c .args .parent .now) (c .fill3 .last .0)) (start c .args .marks .now)
 ready c =

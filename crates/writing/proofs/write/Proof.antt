@@ -12,11 +12,11 @@ use Rattle.writing.proofs.write.Statement.{statement}
 use Rattle.writing.proofs.write.Tie as tie
 
 abbrev Inv-loop : tie.InvT-loop
-Inv-loop k row₀ t flags total resets₀ q₀ past₀ s₀ g₀ order₀ row resets q past s g order =
-    Going t k row₀ row q past s g resets order
+Inv-loop start k row₀ t flags total resets₀ q₀ past₀ s₀ g₀ order₀ row resets q past s g order =
+    Going t start k row₀ row q past s g resets order
 
 abbrev μ-loop : tie.MeasureT-loop
-μ-loop k row₀ t flags total resets₀ q₀ past₀ s₀ g₀ order₀ row resets q past s g order =
+μ-loop start k row₀ t flags total resets₀ q₀ past₀ s₀ g₀ order₀ row resets q past s g order =
     (total - past) * 130 + cond order 65 0 + (64 - g)
 
 mul-total : tie.Need-mul-total Inv-loop μ-loop
@@ -31,7 +31,7 @@ element-copy-out-g c = search needs
 loop-holds : tie.Need-loop-holds Inv-loop μ-loop
 loop-holds c =
     let start = c .before .before .before in
-    outside (passed-first (start .pre .0) _ (start .pre .1) (c .before .fresh .ensures)) refl
+    outside (passed-first (start .pre .0) _ _ (start .pre .1) (c .before .fresh .ensures)) refl
 
 add-put-not-after : tie.Need-add-put-not-after Inv-loop μ-loop
 add-put-not-after c = record { fits = omega (arith, c .before .before .before .before .before .before .before .pre .0 .few) }
@@ -58,7 +58,7 @@ module _ (c : tie.Else1 Inv-loop μ-loop) where
   abbrev start : tie.Start Inv-loop μ-loop
   start = c .before .before .before .before .before .before
 
-  within : Inside (start .args .t1) (start .args .k) (start .args .row .now) (c .before .before .loop .row)
+  within : Inside (start .args .t1) (start .args .start) (start .args .k) (start .args .row .now) (c .before .before .loop .row)
       (c .before .before .loop .q) (c .before .before .loop .past) (c .before .before .loop .s)
       (c .before .before .loop .g) (c .before .before .loop .resets)
   within = as-inside (c .before .before .loop .inv) (c .if1 .left)

@@ -6,8 +6,8 @@ use lib.ListN.{length}
 use Rattle.answers.specs.Answered.{answered}
 use Rattle.answers.specs.Answered.{short, roomy-yes}
 use borrow.Author.Needs.{needs}
-use Rattle.judge.proofs.judge_plan.Statement.{statement}
-use Rattle.judge.proofs.judge_plan.Tie as tie
+use Rattle.judge.proofs.plan_from.Statement.{statement}
+use Rattle.judge.proofs.plan_from.Tie as tie
 
 few : (c : tie.Then1) → length (c .before .before .before .before .before .before .args .answer .now) < 4
 few c = omega (arith, c .if1 .taken)
@@ -54,8 +54,8 @@ returns-2 c =
       },
     )
 
-pub judge-plan-spec : {M : Type 1} → statement M
-judge-plan-spec =
+pub plan-from-spec : {M : Type 1} → statement M
+plan-from-spec =
     tie.close
     (tie.spec
     returns

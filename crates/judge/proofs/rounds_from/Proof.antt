@@ -6,8 +6,8 @@ use lib.ListN.{length}
 use Rattle.answers.specs.Answered.{answered}
 use Rattle.answers.specs.Answered.{short, roomy-yes}
 use borrow.Author.Needs.{needs}
-use Rattle.judge.proofs.judge_rounds.Statement.{statement}
-use Rattle.judge.proofs.judge_rounds.Tie as tie
+use Rattle.judge.proofs.rounds_from.Statement.{statement}
+use Rattle.judge.proofs.rounds_from.Tie as tie
 
 few : (c : tie.Then1) → length (c .before .before .before .args .answer .now) < 4
 few c = omega (arith, c .if1 .taken)
@@ -43,7 +43,7 @@ returns-2 c =
       },
     )
 
-pub judge-rounds-spec : {M : Type 1} → statement M
-judge-rounds-spec =
+pub rounds-from-spec : {M : Type 1} → statement M
+rounds-from-spec =
     tie.close
     (tie.spec returns rounds-requires count-numbers-requires put-requires same-length returns-2)

@@ -1,20 +1,20 @@
--- `joins::keep_line` meets its contract. The codes passed are kept; the measure is what is left.
-use Rattle.joins.specs.Keeping.{LineTo, line-none, line-more}
+-- `zones::copy_line` meets its contract. The codes passed are copied; the measure is what is left.
+use Rattle.zones.specs.Lines.{LineTo, line-none, line-more}
 use Prim.Native.Nat.{_-_, _≤_}
 use mathlib.Core.Path.{_≡_}
 use borrow.Author.Needs.{needs}
 use native.Mathlib.Omega.{arith}
-use Rattle.joins.proofs.keep_line.Statement.{statement}
-use Rattle.joins.proofs.keep_line.Tie as tie
+use Rattle.zones.proofs.copy_line.Statement.{statement}
+use Rattle.zones.proofs.copy_line.Tie as tie
 
 abbrev Inv-loop : tie.InvT-loop
-Inv-loop row₀ out to from size c₀ row c = (c ≤ size) × LineTo to from c out row₀ row
+Inv-loop row₀ other to from size c₀ row c = (c ≤ size) × LineTo to from c other row₀ row
 
 abbrev μ-loop : tie.MeasureT-loop
-μ-loop row₀ out to from size c₀ row c = size - c
+μ-loop row₀ other to from size c₀ row c = size - c
 
 loop-holds : tie.Need-loop-holds Inv-loop μ-loop
-loop-holds c = (search needs, line-none _ _ _ _ (c .pre .0))
+loop-holds c = (search needs, line-none _ _ _ _)
 
 add-row : tie.Need-add-row Inv-loop μ-loop
 add-row c = search needs
@@ -52,8 +52,8 @@ returns c =
     let e : h .loop .c ≡ h .before .args .size = omega arith in
     rw e at (h .loop .inv .1)
 
-pub keep-line-spec : {M : Type 1} → statement M
-keep-line-spec =
+pub copy-line-spec : {M : Type 1} → statement M
+copy-line-spec =
     tie.close
     (tie.spec
     Inv-loop

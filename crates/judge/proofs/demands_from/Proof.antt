@@ -8,8 +8,8 @@ use Rattle.answers.specs.Answered.{answered}
 use Rattle.answers.specs.Answered.{short, roomy-yes, answered-short}
 use Rattle.judge.specs.Row.{row-short, row-roomy}
 use borrow.Author.Needs.{needs}
-use Rattle.judge.proofs.judge_demands.Statement.{statement}
-use Rattle.judge.proofs.judge_demands.Tie as tie
+use Rattle.judge.proofs.demands_from.Statement.{statement}
+use Rattle.judge.proofs.demands_from.Tie as tie
 
 few : (c : tie.Then1) → length (c .before .before .before .args .answer .now) < 4
 few c = omega (arith, c .if1 .taken)
@@ -18,7 +18,7 @@ enough : (c : tie.Else1) → 4 ≤ length (c .before .before .before .args .answ
 enough c = omega (arith, c .if1 .left)
 
 returns : tie.Need-returns
-returns c = (short (c .before .before .before .args .answer .now) (few c), answered-short _ _ (few c), row-short _ _ _ _ (few c))
+returns c = (short (c .before .before .before .args .answer .now) (few c), answered-short _ _ (few c), row-short _ _ _ _ _ (few c))
 
 demands-requires : tie.Need-demands-requires
 demands-requires c κs = search needs
@@ -45,11 +45,11 @@ returns-2 c =
     let room = args .answer .now in (
       roomy-yes room (enough tested),
       put .put .ensures ∙ ap (answered room) (told .demands-numbers .ensures ∙ ap demandsNumbers (asked .demands .ensures .0)),
-      asked .demands .ensures .1 ∙ row-roomy room (args .table .now) (args .k) (args .row .now) (enough tested),
+      asked .demands .ensures .1 ∙ row-roomy room (args .table .now) (args .start) (args .k) (args .row .now) (enough tested),
     )
 
-pub judge-demands-spec : {M : Type 1} → statement M
-judge-demands-spec =
+pub demands-from-spec : {M : Type 1} → statement M
+demands-from-spec =
     tie.close
     (tie.spec
     returns
