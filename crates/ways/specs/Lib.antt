@@ -1,3 +1,4 @@
+pub mod Clocks
 pub mod Partners
 pub mod Forth
 pub mod Back

@@ -1,5 +1,5 @@
-// The checks of a pass over the difference constraints of k rounds: of the variant of the start, forth over those that raise a later
-// moment, back over those that raise an earlier one, and of the starts.
+// The checks of a pass over the difference constraints of k rounds: those that the variant of the start has, forth those that raise a
+// later moment, back those that raise an earlier one, and those of all starts.
 use checks::Sweep;
 use checks::check;
 use checks::check_side;
@@ -60,11 +60,11 @@ pub fn check_partners(
         return w;
     }
     let mut swept = w;
-    let mut j: usize = 0;
-    while j < clocks {
-        let partner = partner_of(start, total, j + 1);
+    let mut clock: usize = 1;
+    while clock <= clocks {
+        let partner = partner_of(start, total, clock);
         swept = check_partner(partner, parts, time, parent, stamp, swept);
-        j += 1;
+        clock += 1;
     }
     swept
 }
