@@ -1,10 +1,13 @@
-//! Times the proved library beside plain Rust, question by question, from log-in and in mid-shift.
+//! Times the proved library beside plain Rust, question by question, from log-in and in mid-shift; and the panel beside plain
+//! Rust and beside the plan of the same rounds.
 //!
 //! The sides take turns in the same run, each turn a batch of calls; the median batch counts. Time is that of this thread on a
 //! processor, so that other work on the machine does not count. The answers of the two must agree.
 
 #[path = "../terminal/judge.rs"]
 mod judge;
+#[path = "../terminal/panel.rs"]
+mod panel;
 #[path = "../plain/plain.rs"]
 mod plain;
 
@@ -42,6 +45,8 @@ fn table(clocks: u8, steps: &[Vec<u8>]) -> Vec<u8> {
 
 const S1: &[u8] = include_bytes!("../samples/S1.table");
 const S2: &[u8] = include_bytes!("../samples/S2.table");
+const S8: &[u8] = include_bytes!("../samples/S8.table");
+const S9: &[u8] = include_bytes!("../samples/S9.table");
 const S10: &[u8] = include_bytes!("../samples/S10.table");
 const S11: &[u8] = include_bytes!("../samples/S11.table");
 
@@ -397,6 +402,143 @@ fn bench_demands(name: &str, bytes: &[u8], k: u64) {
     show(&format!("demands, {name}: {numbers}"), &times);
 }
 
+/// Rooms that serve every panel.
+struct Panel {
+    marks: Vec<u8>,
+    times: Vec<f64>,
+    answer: [u64; 4],
+}
+
+type Windows = fn(&[u8], u64, &mut [u8], &mut [f64], &mut [u64]) -> bool;
+
+impl Panel {
+    fn new() -> Panel {
+        Panel {
+            marks: vec![9; 1024],
+            times: vec![9.0; 2048],
+            answer: [9; 4],
+        }
+    }
+
+    fn ask(&mut self, windows: Windows, bytes: &[u8], k: u64) {
+        let (marks, times) = (&mut self.marks, &mut self.times);
+        assert!(windows(
+            black_box(bytes),
+            black_box(k),
+            marks,
+            times,
+            &mut self.answer
+        ));
+        black_box(self);
+    }
+
+    /// In words: how many windows are closed.
+    fn kind(&self) -> String {
+        let total = self.answer[1] as usize;
+        let closed = self.marks[..total]
+            .iter()
+            .filter(|&&mark| mark == 2)
+            .count();
+        match (self.marks[0], closed) {
+            (0, _) => "no run".into(),
+            (_, 0) => "all open".into(),
+            (_, closed) if closed == total => "all closed".into(),
+            (_, closed) => format!("{closed} closed"),
+        }
+    }
+}
+
+/// Windows of the library and of plain Rust, and the library's widest and its plan of the same rounds. Windows by plan.
+fn bench_panel(name: &str, bytes: &[u8], k: u64) -> f64 {
+    let (mut a, mut b) = (Panel::new(), Panel::new());
+    a.ask(panel::windows, bytes, k);
+    b.ask(entries::windows, bytes, k);
+    let bits = |p: &Panel| -> Vec<u64> { p.times.iter().map(|time| time.to_bits()).collect() };
+    assert_eq!(
+        (&a.marks, a.answer, bits(&a)),
+        (&b.marks, b.answer, bits(&b))
+    );
+    assert_eq!(a.answer[0], 0);
+    assert_eq!(panel::widest(bytes, k), entries::widest(bytes, k));
+    let kind = a.kind();
+    let mut rooms = Rooms::new();
+    let [windows, plain, plan, widest] = time([
+        &mut || a.ask(panel::windows, bytes, k),
+        &mut || b.ask(entries::windows, bytes, k),
+        &mut || rooms.ask(judge::plan, bytes, k),
+        &mut || {
+            black_box(panel::widest(black_box(bytes), black_box(k)));
+        },
+    ]);
+    let by_plan = windows / plan;
+    println!(
+        "{:<60} {windows:>11.0} {plain:>11.0} {:>6.2} {by_plan:>7.2} {widest:>11.0} {:>7.2} {plan:>11.0}",
+        format!("{name}: {kind}"),
+        windows / plain,
+        widest / plan
+    );
+    by_plan
+}
+
+/// The panel of all tables here that say something about it.
+fn bench_panels() {
+    println!(
+        "{:<60} {:>38} {:>19} {:>11}",
+        "", "windows", "widest", "plan"
+    );
+    print!(
+        "{:<60} {:>11} {:>11} {:>6}",
+        "panel", "proved ns", "plain ns", "ratio"
+    );
+    println!(
+        " {:>7} {:>11} {:>7} {:>11}",
+        "by plan", "proved ns", "by plan", "proved ns"
+    );
+    let tables: [(&str, &[u8], u64); 18] = [
+        ("S10 for 2", S10, 2),
+        ("5 steps for 10", &line(), 10),
+        ("5 steps for 204", &line(), 204),
+        ("S1 for 1,024", S1, 1024),
+        ("S8 for 1,024", S8, 1024),
+        ("S9 for 1,024", S9, 1024),
+        ("S10 for 512", S10, 512),
+        ("S11 for 1,024", S11, 1024),
+        ("6 clocks, 16 steps, 64 guards, for 64", &largest(), 64),
+        (
+            "6 clocks, 16 steps, 64 guards, with an end, for 64",
+            &largest_with_an_end(),
+            64,
+        ),
+        (
+            "1 step, 64 exact guards, for 1,024",
+            &crowded(EXACTLY, 3),
+            1024,
+        ),
+        ("1 step, 64 guards, for 1,024", &crowded(AT_LEAST, 3), 1024),
+        (
+            "1 step, 64 guards from above, for 1,024",
+            &crowded(AT_MOST, 3),
+            1024,
+        ),
+        ("2 steps, 64 guards, for 512: drifting", &drifting(), 512),
+        ("6 steps, 64 guards, for 170: zigzag", &zigzag(None), 170),
+        (
+            "6 steps, 64 guards, for 170: zigzag",
+            &zigzag(Some(1000)),
+            170,
+        ),
+        (
+            "5 steps, 64 guards, for 204: descending",
+            &descending(),
+            204,
+        ),
+        ("4 steps, 64 guards, for 256: staircase", &staircase(), 256),
+    ];
+    let ratios = tables.map(|(name, bytes, k)| bench_panel(name, bytes, k));
+    let most = ratios.into_iter().fold(0.0, f64::max);
+    println!("windows by plan: at most {most:.2}; the goal is 4");
+}
+
 fn main() {
     println!(
         "{:<60} {:>30} {:>30} {:>9}",
@@ -437,4 +579,6 @@ fn main() {
     bench_plan("4 steps, 64 guards, for 256: staircase", &staircase(), 256);
     bench_demands("S10 for 2", S10, 2);
     bench_demands("the largest row", &crowded(EXACTLY, 3), 1024);
+    println!();
+    bench_panels();
 }

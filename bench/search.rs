@@ -1,10 +1,16 @@
 //! Searches for tables whose plans take many passes, by hill climbing with fixed seeds. A model of the library's order counts the
 //! passes and the checks of a plan; the search keeps what takes more checks. The slowest tables found are then timed in the library.
 //!
+//! With the word panel: for tables whose windows take long beside their plans, both timed in the library; the search keeps a larger
+//! ratio.
+//!
 //!     bench/run search [SECONDS [mid-shift]]
+//!     bench/run search SECONDS panel
 
 #[path = "../terminal/judge.rs"]
 mod judge;
+#[path = "../terminal/panel.rs"]
+mod panel;
 
 use std::time::{Duration, Instant};
 
@@ -250,14 +256,93 @@ fn reduced(table: &Table, start: Start, k: usize) -> Table {
     small
 }
 
+/// The table in words.
+fn words(table: &Table) -> String {
+    let relation = |r: u8| ["under", "at most", "exactly", "at least", "over"][usize::from(r)];
+    let steps: Vec<String> = table
+        .steps
+        .iter()
+        .map(|(guards, resets)| {
+            let guards = guards.iter().map(|&(j, r, c)| format!("{j} {} {c}", relation(r)));
+            let resets = (1..=CLOCKS).filter(|j| resets >> j & 1 == 1).map(|j| format!("zero {j}"));
+            guards.chain(resets).collect::<Vec<_>>().join(", ")
+        })
+        .collect();
+    steps.join("; ")
+}
+
 type Plan = fn(&[u8], u64, &mut [u64], &mut [u64], &mut [u64], &mut [u64]) -> bool;
+
+/// The least time of a few calls, in microseconds.
+fn fastest(calls: usize, mut call: impl FnMut()) -> f64 {
+    let time = |_| {
+        let begin = Instant::now();
+        call();
+        begin.elapsed().as_secs_f64() * 1e6
+    };
+    (0..calls).map(time).fold(f64::MAX, f64::min)
+}
+
+/// The times of the windows and of the plan of as many rounds as there may be; None without a run.
+fn panel_times(table: &Table, calls: usize) -> Option<(f64, f64)> {
+    let bytes = table.bytes();
+    let k = (1024 / table.steps.len()) as u64;
+    let (mut times, mut starts, mut room, mut answer) = ([0; 1024], [0; 6], [0; 1031], [0; 4]);
+    let plan = fastest(calls, || {
+        assert!(judge::plan(&bytes, k, &mut times, &mut starts, &mut room, &mut answer));
+    });
+    if answer[1] != 0 {
+        return None;
+    }
+    let (mut marks, mut seconds) = ([0; 1024], [0.0; 2048]);
+    let windows = fastest(calls, || {
+        assert!(panel::windows(&bytes, k, &mut marks, &mut seconds, &mut answer));
+    });
+    Some((windows, plan))
+}
+
+fn search_panel(seconds: u64) {
+    const SEEDS: u64 = 12;
+    let ratio = |table: &Table, calls: usize| panel_times(table, calls).map_or(0.0, |(windows, plan)| windows / plan);
+    let mut found: Vec<(f64, Table)> = Vec::new();
+    for seed in 1..=SEEDS {
+        let mut random = Random(seed * 0x9E37_79B9_7F4A_7C15);
+        let mut best = (0.0, random.table());
+        let end = Instant::now() + Duration::from_millis(seconds * 1000 / SEEDS);
+        while Instant::now() < end {
+            let new = match random.below(if best.0 < 5.0 { 2 } else { 50 }) {
+                0 => random.table(),
+                _ => random.changed(&best.1),
+            };
+            // What seems to take longer is timed again, so that one slow call does not count.
+            if ratio(&new, 2) >= best.0 {
+                let again = ratio(&new, 7);
+                if again >= best.0 {
+                    best = (again, new);
+                }
+            }
+        }
+        found.push(best);
+    }
+    found.sort_by(|a, b| b.0.total_cmp(&a.0));
+    println!("{:>6} {:>7} {:>6} {:>10} {:>9} {:>7}  table", "steps", "rounds", "guards", "windows us", "plan us", "ratio");
+    for (_, table) in &found {
+        if let Some((windows, plan)) = panel_times(table, 21) {
+            println!(
+                "{:>6} {:>7} {:>6} {:>10.1} {:>9.1} {:>7.2}  {}",
+                table.steps.len(), 1024 / table.steps.len(), table.guards(), windows, plan, windows / plan, words(table)
+            );
+        }
+    }
+}
 
 fn main() {
     let seconds: u64 = std::env::args().nth(1).map_or(60, |word| word.parse().expect("seconds"));
     let (start, plan): (_, Plan) = match std::env::args().nth(2).as_deref() {
         None => (Start::LogIn, judge::plan),
         Some("mid-shift") => (Start::MidShift, judge::plan_mid_shift),
-        Some(word) => panic!("{word}: only mid-shift can be asked for"),
+        Some("panel") => return search_panel(seconds),
+        Some(word) => panic!("{word}: only mid-shift or panel can be asked for"),
     };
     const SEEDS: u64 = 12;
     let mut found: Vec<(Cost, Table)> = Vec::new();
@@ -289,25 +374,12 @@ fn main() {
     for (cost, table) in &found {
         let bytes = table.bytes();
         let k = 1024 / table.steps.len();
-        let mut fastest = f64::MAX;
-        for _ in 0..5 {
-            let begin = Instant::now();
+        let taken = fastest(5, || {
             assert!(plan(&bytes, k as u64, &mut times, &mut starts, &mut room, &mut answer));
-            fastest = fastest.min(begin.elapsed().as_secs_f64() * 1e6);
-        }
-        let relation = |r: u8| ["under", "at most", "exactly", "at least", "over"][usize::from(r)];
-        let words: Vec<String> = reduced(table, start, k)
-            .steps
-            .iter()
-            .map(|(guards, resets)| {
-                let guards = guards.iter().map(|&(j, r, c)| format!("{j} {} {c}", relation(r)));
-                let resets = (1..=CLOCKS).filter(|j| resets >> j & 1 == 1).map(|j| format!("zero {j}"));
-                guards.chain(resets).collect::<Vec<_>>().join(", ")
-            })
-            .collect();
+        });
         println!(
             "{:>6} {:>7} {:>6} {:>7} {:>10} {:>9.0}  {}",
-            table.steps.len(), k, table.guards(), cost.passes, cost.checks, fastest, words.join("; ")
+            table.steps.len(), k, table.guards(), cost.passes, cost.checks, taken, words(&reduced(table, start, k))
         );
     }
 }

@@ -1,6 +1,7 @@
 /* Measures the stack that each entry takes, by painting what lies below the caller's frame and looking how far down the paint is
- * gone. Needs the static library; prints one line for each table and entry, and fails if one takes more than LIMIT bytes. */
+ * gone. Needs the static libraries; prints one line for each table and entry, and fails if one takes more than LIMIT bytes. */
 #include "../terminal/judge.h"
+#include "../terminal/panel.h"
 #include <stdio.h>
 #include <stdlib.h>
 #include <string.h>
@@ -12,6 +13,9 @@ static size_t length;
 static uint64_t rounds_asked;
 static uint64_t times[1024], starts[6], room[1031], answer[4];
 static int64_t row[JUDGE_ROW];
+static uint8_t marks[PANEL_MARKS];
+static double seconds[PANEL_TIMES];
+static struct panel_widest_answer widest;
 
 static void ask_read(void) { judge_read(table, length, answer, 4); }
 static void ask_rounds(void) { judge_rounds(table, length, answer, 4); }
@@ -24,6 +28,10 @@ static void ask_plan_mid_shift(void) {
 }
 static void ask_demands(void) { judge_demands(table, length, rounds_asked, row, JUDGE_ROW, answer, 4); }
 static void ask_demands_mid_shift(void) { judge_demands_mid_shift(table, length, rounds_asked, row, JUDGE_ROW, answer, 4); }
+static void ask_windows(void) {
+    panel_windows(table, length, rounds_asked, marks, PANEL_MARKS, seconds, PANEL_TIMES, answer, 4);
+}
+static void ask_widest(void) { widest = panel_widest(table, length, rounds_asked); }
 
 /* The bytes below this frame that a call changed, MARGIN at least. */
 static __attribute__((noinline)) size_t taken(void (*call)(void)) {
@@ -86,9 +94,9 @@ static int failed;
 static void line(const char *name, uint64_t k) {
     rounds_asked = k;
     void (*asked[])(void) = {ask_read, ask_rounds, ask_plan, ask_demands,
-                             ask_rounds_mid_shift, ask_plan_mid_shift, ask_demands_mid_shift};
+                             ask_rounds_mid_shift, ask_plan_mid_shift, ask_demands_mid_shift, ask_windows, ask_widest};
     printf("%-44s", name);
-    for (int i = 0; i < 7; i++) {
+    for (int i = 0; i < 9; i++) {
         size_t bytes = taken(asked[i]);
         printf(" %8zu", bytes);
         if (bytes > LIMIT) failed = 1;
@@ -105,10 +113,10 @@ static void sample(const char *path, uint64_t k) {
 }
 
 int main(void) {
-    printf("%-44s %8s %26s %26s\n", "", "", "from log-in", "in mid-shift");
+    printf("%-44s %8s %26s %26s %17s\n", "", "", "from log-in", "in mid-shift", "panel");
     printf("%-44s %8s", "stack in bytes", "read");
     for (int i = 0; i < 2; i++) printf(" %8s %8s %8s", "rounds", "plan", "demands");
-    printf("\n");
+    printf(" %8s %8s\n", "windows", "widest");
     sample("samples/S1.table", 1024);
     sample("samples/S2.table", 2);
     sample("samples/S10.table", 2);

@@ -1,7 +1,8 @@
-//! The four questions about a timing table, in plain Rust and with no proofs. The proved library is compared with it, in what
-//! it answers (terminal/compare.rs) and in how long it takes (bench/bench.rs).
+//! The four questions about a timing table and the panel's two, in plain Rust and with no proofs. The proved library is compared
+//! with it, in what it answers (terminal/compare.rs) and in how long it takes (bench/bench.rs).
 //!
-//! All but "read" have two variants: runs from log-in, which sets every clock to 0, or in mid-shift, from any readings.
+//! Rounds, plan and demands have two variants: runs from log-in, which sets every clock to 0, or in mid-shift, from any readings.
+//! The panel shows runs from log-in.
 //!
 //! A clock is 01's timer, a guard its bound, a reset its zeroing. Clocks are numbered from 1, as on the wire.
 
@@ -90,6 +91,14 @@ pub enum Rounds {
 pub enum Plan {
     Found { parts: u64 },
     Loop { length: usize },
+}
+
+/// When a step may happen: from a moment to a moment, from a moment on, or never, where no run exists.
+#[derive(Clone, Copy, Debug, PartialEq, Eq)]
+pub enum Window<T> {
+    Closed(T, T),
+    Open(T),
+    Absent,
 }
 
 /// "Read": the clocks, steps and guards of a table.
@@ -199,6 +208,52 @@ pub fn demands(bytes: &[u8], start: Start, k: u64, row: &mut [i64]) -> Result<us
         }
     }
     Ok(number)
+}
+
+/// The panel's "windows for k": a mark for each step in the first places of `marks`, and two seconds for each in those of `times`.
+/// The number of steps.
+pub fn windows(
+    bytes: &[u8],
+    k: u64,
+    marks: &mut [u8],
+    times: &mut [f64],
+) -> Result<usize, Refusal> {
+    let table = Table::parse(bytes)?;
+    let total = table.total(k)?;
+    if marks.len() < total || times.len() < 2 * total {
+        return Err(Refusal {
+            fault: Fault::Times,
+            place: 0,
+        });
+    }
+    let (parts, spans) = spans_of(&table, total);
+    let places = marks.iter_mut().zip(times.chunks_exact_mut(2));
+    for ((mark, pair), span) in places.zip(spans) {
+        (*mark, [pair[0], pair[1]]) = shown(in_seconds(span, parts));
+    }
+    Ok(total)
+}
+
+/// The panel's "widest for k": the widest closed window, the first among equals, in seconds; or absent, where none is closed.
+pub fn widest(bytes: &[u8], k: u64) -> Result<Window<f64>, Refusal> {
+    let table = Table::parse(bytes)?;
+    let (parts, spans) = spans_of(&table, table.total(k)?);
+    let mut widest: Option<(i64, i64)> = None;
+    for span in spans {
+        if let Window::Closed(a, b) = span {
+            if widest.is_none_or(|(c, d)| b - a > d - c) {
+                widest = Some((a, b));
+            }
+        }
+    }
+    let window = widest.map_or(Window::Absent, |(a, b)| Window::Closed(a, b));
+    Ok(in_seconds(window, parts))
+}
+
+/// The parts to a tick of k rounds from log-in, and the window of each step in parts.
+pub fn spans(bytes: &[u8], k: u64) -> Result<(u64, Vec<Window<i64>>), Refusal> {
+    let table = Table::parse(bytes)?;
+    Ok(spans_of(&table, table.total(k)?))
 }
 
 // Reading.
@@ -550,6 +605,117 @@ fn on_cycle(parent: &[u16], marks: &mut [u16]) -> Option<u16> {
     None
 }
 
+// Windows: the shortest paths from the start too.
+
+/// The latest time of a step that nothing bounds from above: above all that can be.
+const UNBOUNDED: i64 = i64::MAX / 2;
+
+fn spans_of(table: &Table, total: usize) -> (u64, Vec<Window<i64>>) {
+    let parts = total + table.clocks + 1;
+    let edges = Edges::of(table, Start::LogIn, total);
+    let spans = match solve(&edges, Start::LogIn, total, parts) {
+        Ok(first) => {
+            let last = latest(&edges, total, parts);
+            let ends = first.into_iter().zip(last);
+            ends.skip(1)
+                .take(total)
+                .map(|(first, last)| match last {
+                    UNBOUNDED => Window::Open(first),
+                    _ => Window::Closed(first, last),
+                })
+                .collect()
+        }
+        Err(_) => vec![Window::Absent; total],
+    };
+    (parts as u64, spans)
+}
+
+/// The greatest times that meet the edges, with the start and the last resets before it at 0, where some times do. Here the
+/// edges of `back` lower a later moment after an earlier one, and those of `forth` an earlier one after a later one. One pass goes
+/// forth over all steps and one back. In those forth after them, each step that is lowered is followed by a pass back from it, as
+/// far as it lowers others; one forth that lowers nothing is the last.
+fn latest(edges: &Edges, total: usize, vertices: usize) -> Vec<i64> {
+    let mut time = vec![UNBOUNDED; vertices];
+    time[0] = 0;
+    time[total + 1..].fill(0);
+    let lower = begins(edges.forth.iter().map(|edge| edge.from), total);
+    let upper = begins(edges.back.iter().map(|edge| edge.to), total);
+    let forth = |i: usize, time: &mut [i64]| lowered(&edges.back[upper[i]..upper[i + 1]], time);
+    let back = |i: usize, time: &mut [i64]| lowered(&edges.forth[lower[i]..lower[i + 1]], time);
+    for i in 1..=total {
+        forth(i, &mut time);
+    }
+    for i in (1..=total).rev() {
+        back(i, &mut time);
+    }
+    loop {
+        let mut done = true;
+        for i in 1..=total {
+            if forth(i, &mut time) == usize::MAX {
+                continue;
+            }
+            done = false;
+            let (mut at, mut least) = (i, i);
+            while at >= least && at > 0 {
+                least = least.min(back(at, &mut time));
+                at -= 1;
+            }
+        }
+        if done {
+            return time;
+        }
+    }
+}
+
+/// For each step the first place of its edges, where the later moments of all are these.
+fn begins(later: impl ExactSizeIterator<Item = u16>, total: usize) -> Vec<usize> {
+    let edges = later.len();
+    let mut begins = Vec::with_capacity(total + 2);
+    for (place, step) in later.enumerate() {
+        while begins.len() <= usize::from(step) {
+            begins.push(place);
+        }
+    }
+    begins.resize(total + 2, edges);
+    begins
+}
+
+/// Lowers times as edges demand; the first vertex that was lowered, or the greatest number.
+fn lowered(edges: &[Edge], time: &mut [i64]) -> usize {
+    let mut first = usize::MAX;
+    for edge in edges {
+        let from = time[usize::from(edge.from)];
+        let to = usize::from(edge.to);
+        if from != UNBOUNDED && from - i64::from(edge.weight) < time[to] {
+            time[to] = from - i64::from(edge.weight);
+            first = first.min(to);
+        }
+    }
+    first
+}
+
+/// A tick is a tenth of a second.
+fn seconds(moment: i64, parts: u64) -> f64 {
+    moment as f64 / (10 * parts) as f64
+}
+
+fn in_seconds(window: Window<i64>, parts: u64) -> Window<f64> {
+    match window {
+        Window::Closed(a, b) => Window::Closed(seconds(a, parts), seconds(b, parts)),
+        Window::Open(a) => Window::Open(seconds(a, parts)),
+        Window::Absent => Window::Absent,
+    }
+}
+
+/// A window as the panel has it: its mark and two times.
+fn shown(window: Window<f64>) -> (u8, [f64; 2]) {
+    match window {
+        Window::Closed(a, b) => (2, [a, b]),
+        Window::Open(a) => (1, [a, 0.0]),
+        Window::Absent => (0, [0.0, 0.0]),
+    }
+}
+
 // Counting: the effects of rounds as difference bound matrices.
 
 /// A bound on a difference, in ticks: 2 d + 1 for "at most d", 2 d for "under d". The smaller is the tighter.
@@ -723,8 +889,8 @@ fn count(table: &Table, start: Start) -> Rounds {
     Rounds::Count(count)
 }
 
-/// The questions in the form of the C interface (terminal/judge.h): four numbers in the first places of a lent answer; false,
-/// and nothing done, where it has fewer than four. Those that do not say mid-shift are from log-in.
+/// The questions in the form of the C interface (terminal/judge.h, terminal/panel.h): four numbers in the first places of a lent
+/// answer; false, and nothing done, where it has fewer than four. Those that do not say mid-shift are from log-in.
 pub mod entries {
     use super::{Plan, Refusal, Rounds, Start};
 
@@ -811,5 +977,31 @@ pub mod entries {
         give(answer, || {
             super::demands(table, Start::MidShift, k, row).map(listed)
         })
+    }
+
+    pub fn windows(
+        table: &[u8],
+        k: u64,
+        marks: &mut [u8],
+        times: &mut [f64],
+        answer: &mut [u64],
+    ) -> bool {
+        give(answer, || {
+            super::windows(table, k, marks, times).map(listed)
+        })
+    }
+
+    /// Number, place and mark, and two times.
+    pub fn widest(table: &[u8], k: u64) -> ([u64; 3], [f64; 2]) {
+        match super::widest(table, k) {
+            Ok(window) => {
+                let (mark, times) = super::shown(window);
+                ([0, 0, u64::from(mark)], times)
+            }
+            Err(r) => {
+                let [number, place, ..] = refusal(r);
+                ([number, place, 0], [0.0, 0.0])
+            }
+        }
     }
 }

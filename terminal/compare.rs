@@ -1,17 +1,22 @@
 //! Compares the proved library with plain Rust: 01's samples, random legal tables and damaged ones, each with all four
-//! questions, from log-in and in mid-shift, with rooms that are short, exact and longer. Every room is filled with random numbers
-//! before a call, so that what must be kept is seen to be kept. Where a loop is answered each side's loop is held to 01's
-//! definition, since which one is written is free.
+//! questions, from log-in and in mid-shift, and with the panel's two, with rooms that are short, exact and longer. Every room is
+//! filled with random numbers before a call, so that what must be kept is seen to be kept. Where a loop is answered each side's
+//! loop is held to 01's definition, since which one is written is free. Windows are also held to shortest paths over all demands
+//! (plain/windows.rs), and each second to the exact fraction that it stands for, in whole numbers.
 //!
 //! Prints counts and "compare: N agreed, 0 differ". Exit status 1 where something differs, or where a kind of answer did not
 //! occur.
 
 #[path = "judge.rs"]
 mod judge;
+#[path = "panel.rs"]
+mod panel;
 #[path = "../plain/plain.rs"]
 mod plain;
+#[path = "../plain/windows.rs"]
+mod windows;
 
-use plain::{entries, Start};
+use plain::{entries, Start, Window};
 use std::collections::{BTreeMap, HashMap, HashSet};
 use std::fmt::Arguments;
 
@@ -33,11 +38,16 @@ struct Questions {
     demands: fn(&[u8], u64, &mut [i64], &mut [u64]) -> bool,
 }
 
+/// Number, place and mark, and two times.
+type Widest = ([u64; 3], [f64; 2]);
+
 /// All questions, as one side answers them.
 struct Side {
     read: Short,
     log_in: Questions,
     mid_shift: Questions,
+    windows: fn(&[u8], u64, &mut [u8], &mut [f64], &mut [u64]) -> bool,
+    widest: fn(&[u8], u64) -> Widest,
 }
 
 impl Side {
@@ -61,6 +71,8 @@ const PROVED: Side = Side {
         plan: judge::plan_mid_shift,
         demands: judge::demands_mid_shift,
     },
+    windows: panel::windows,
+    widest: panel::widest,
 };
 
 const PLAIN: Side = Side {
@@ -75,6 +87,8 @@ const PLAIN: Side = Side {
         plan: entries::plan_mid_shift,
         demands: entries::demands_mid_shift,
     },
+    windows: entries::windows,
+    widest: entries::widest,
 };
 
 /// Random numbers from a fixed seed (splitmix64).
@@ -296,6 +310,8 @@ struct Compare {
     differ: u64,
     seen: BTreeMap<String, u64>,
     longest_loop: usize,
+    /// Seconds that were held to their fractions.
+    seconds: u64,
 }
 
 /// The rooms of a plan, and what was answered.
@@ -320,6 +336,52 @@ impl Rooms {
         );
         (told, r)
     }
+}
+
+/// The rooms of a panel, with the bits of the times, and what was answered.
+#[derive(Clone, PartialEq, Debug)]
+struct Panel {
+    marks: Vec<u8>,
+    times: Vec<u64>,
+    answer: Vec<u64>,
+}
+
+impl Panel {
+    fn ask(&self, side: &Side, bytes: &[u8], k: u64) -> (bool, Panel) {
+        let mut p = self.clone();
+        let mut times: Vec<f64> = p.times.iter().map(|&bits| f64::from_bits(bits)).collect();
+        let told = (side.windows)(bytes, k, &mut p.marks, &mut times, &mut p.answer);
+        p.times = times.into_iter().map(f64::to_bits).collect();
+        (told, p)
+    }
+}
+
+/// A widest window with the bits of its times.
+fn bits_of((numbers, times): Widest) -> ([u64; 3], [u64; 2]) {
+    (numbers, times.map(f64::to_bits))
+}
+
+/// Whether no binary64 number is nearer to the fraction m / (10 P) than this one, and this one is even if another is as near. All
+/// in whole numbers: times a power of two and 10 P, a number, its neighbours and the fraction are whole, and below 2^70.
+fn nearest(seconds: f64, moment: i64, parts: u64) -> bool {
+    let bits = seconds.to_bits();
+    if moment == 0 {
+        return bits == 0;
+    }
+    // A fraction of 1 / 10,310 or more: far from the subnormal numbers, and from those at or above 2^30.
+    if moment < 0 || !(1e-5..1e9).contains(&seconds) {
+        return false;
+    }
+    let power = |bits: u64| (bits >> 52) as i32 - 1075;
+    let scale = 1 - power(bits - 1).min(power(bits));
+    let whole = |bits: u64| {
+        let digits = i128::from(bits & ((1 << 52) - 1) | 1 << 52);
+        (digits << (scale + power(bits))) * i128::from(10 * parts)
+    };
+    let away = |bits: u64| (whole(bits) - (i128::from(moment) << scale)).abs();
+    [bits - 1, bits + 1]
+        .into_iter()
+        .all(|other| away(bits) < away(other) || away(bits) == away(other) && bits % 2 == 0)
 }
 
 /// The demands of k rounds, by plain Rust.
@@ -533,6 +595,143 @@ impl Compare {
         );
     }
 
+    /// Windows for k, with rooms of these lengths: marks, times, answer.
+    fn windows(&mut self, bytes: &[u8], k: u64, lens: [usize; 3]) -> Panel {
+        let marks = (0..lens[0]).map(|_| self.random.next() as u8).collect();
+        let [times, answer] = [lens[1], lens[2]].map(|len| self.random.room(len));
+        let before = Panel {
+            marks,
+            times,
+            answer,
+        };
+        let (told_a, a) = before.ask(&PROVED, bytes, k);
+        let (told_b, b) = before.ask(&PLAIN, bytes, k);
+        if told_b {
+            self.saw_refusal("windows", &b.answer);
+        }
+        self.tell(
+            told_a == told_b && a == b,
+            bytes,
+            format_args!("windows for {k}, rooms {lens:?}"),
+            format_args!("{told_a} {a:?}"),
+            format_args!("{told_b} {b:?}"),
+        );
+        a
+    }
+
+    fn widest(&mut self, bytes: &[u8], k: u64) -> Widest {
+        let a = (PROVED.widest)(bytes, k);
+        let b = (PLAIN.widest)(bytes, k);
+        self.saw_refusal("widest", &b.0);
+        self.tell(
+            bits_of(a) == bits_of(b),
+            bytes,
+            format_args!("widest for {k}"),
+            format_args!("{a:?}"),
+            format_args!("{b:?}"),
+        );
+        a
+    }
+
+    /// Windows and widest for k, in rooms of all lengths that matter; and both held to the windows in parts.
+    fn panel(&mut self, bytes: &[u8], k: u64) {
+        let (_, total) = self.sizes(bytes, k);
+        let legal = (1..=plain::TOTAL).contains(&total) && k <= plain::TOTAL as u64;
+        let total = if legal { total } else { 7 };
+        let more = self.random.within(1, 5);
+        let short = self.random.within(0, 3);
+        self.windows(bytes, k, [total + more, 2 * total + more, 4 + more]);
+        self.windows(bytes, k, [total - 1, 2 * total + more, 4]);
+        self.windows(bytes, k, [total, 2 * total - 1, 4]);
+        self.windows(bytes, k, [0, 0, 4 + more]);
+        self.windows(bytes, k, [total, 2 * total, short]);
+        let shown = self.windows(bytes, k, [total, 2 * total, 4]);
+        let widest = self.widest(bytes, k);
+        if let Ok((parts, spans)) = plain::spans(bytes, k) {
+            self.spans(bytes, k, parts, &spans);
+            self.shown(bytes, k, parts, &spans, &shown, widest);
+        }
+    }
+
+    /// The windows in parts are those of all demands, where these are not too many.
+    fn spans(&mut self, bytes: &[u8], k: u64, parts: u64, spans: &[Window<i64>]) {
+        let guards = plain::read(bytes).map_or(0, |c| c.guards);
+        if k as usize * guards > 4000 && !self.random.one_in(8) {
+            return;
+        }
+        let exact = windows::spans(bytes, k);
+        let same = exact
+            .as_ref()
+            .is_ok_and(|(p, all)| (*p, &all[..]) == (parts, spans));
+        self.saw("windows of all demands".into());
+        self.tell(
+            same,
+            bytes,
+            format_args!("windows in parts for {k}"),
+            format_args!("all demands: {exact:?}"),
+            format_args!("{spans:?}"),
+        );
+    }
+
+    /// Marks and seconds are those of the windows in parts, each second the nearest to its fraction, and the widest is the first
+    /// of the widest in parts.
+    fn shown(
+        &mut self,
+        bytes: &[u8],
+        k: u64,
+        parts: u64,
+        spans: &[Window<i64>],
+        panel: &Panel,
+        widest: Widest,
+    ) {
+        let mut same = panel.answer == [0, spans.len() as u64, 0, 0];
+        let mut kinds = [0; 3];
+        let mut best = (-1, [0; 2]);
+        let rows = panel.marks.iter().zip(panel.times.chunks(2));
+        for (span, (&mark, times)) in spans.iter().zip(rows) {
+            let (kind, moments) = match *span {
+                Window::Closed(first, last) => (2, [first, last]),
+                Window::Open(first) => (1, [first, 0]),
+                Window::Absent => (0, [0, 0]),
+            };
+            kinds[kind] += 1;
+            if kind == 2 && moments[1] - moments[0] > best.0 {
+                best = (moments[1] - moments[0], [times[0], times[1]]);
+            }
+            same &= usize::from(mark) == kind;
+            for (&bits, moment) in times.iter().zip(moments) {
+                same &= nearest(f64::from_bits(bits), moment, parts);
+                self.seconds += 1;
+            }
+        }
+        let mark = if best.0 < 0 { 0 } else { 2 };
+        same &= bits_of(widest) == ([0, 0, mark], best.1);
+        self.saw(format!(
+            "windows: {}",
+            match kinds {
+                [0, 0, _] => "all closed",
+                [0, _, 0] => "all open",
+                [0, _, _] => "closed and open",
+                _ => "absent",
+            }
+        ));
+        self.saw(format!(
+            "widest: {}",
+            match best.0 {
+                -1 => "none is closed",
+                0 => "one moment",
+                _ => "closed",
+            }
+        ));
+        self.tell(
+            same,
+            bytes,
+            format_args!("windows and widest for {k}, beside those in parts"),
+            format_args!("{panel:?} {widest:?}"),
+            format_args!("{parts} {spans:?}"),
+        );
+    }
+
     /// The clocks of a table and the steps of k rounds of it; 0 where there are none.
     fn sizes(&self, bytes: &[u8], k: u64) -> (usize, usize) {
         plain::read(bytes).map_or((0, 0), |c| (c.clocks, c.steps.wrapping_mul(k as usize)))
@@ -606,7 +805,13 @@ impl Compare {
         if rounds[0] == 0 && rounds[1] == 0 && rounds[2] < most.min(100) {
             ks.extend([rounds[2], rounds[2] + 1]);
         }
+        if start == Start::LogIn && self.random.one_in(4) {
+            self.panel(bytes, most);
+        }
         for k in ks {
+            if start == Start::LogIn {
+                self.panel(bytes, k);
+            }
             let plan = self.plan_and_demands(bytes, start, k);
             if rounds[0] == 0 && plan.answer[0] == 0 {
                 // A plan exists just where the count allows it.
@@ -789,6 +994,114 @@ impl Compare {
     }
 }
 
+// Windows that are known.
+
+impl Compare {
+    /// Both sides give the windows that are known, in parts, and the widest, by its step.
+    fn named_windows(
+        &mut self,
+        bytes: &[u8],
+        k: u64,
+        parts: u64,
+        spans: &[Window<i64>],
+        widest: Option<usize>,
+    ) {
+        let seconds = |moment: i64| (moment as f64 / (10 * parts) as f64).to_bits();
+        let rows = spans.iter().map(|span| match *span {
+            Window::Closed(first, last) => (2, [seconds(first), seconds(last)]),
+            Window::Open(first) => (1, [seconds(first), 0]),
+            Window::Absent => (0, [0, 0]),
+        });
+        let (marks, times): (Vec<u8>, Vec<[u64; 2]>) = rows.unzip();
+        let mark = if widest.is_none() { 0 } else { 2 };
+        let widest = ([0, 0, mark], widest.map_or([0; 2], |i| times[i]));
+        let before = Panel {
+            marks: vec![9; spans.len()],
+            times: vec![9; 2 * spans.len()],
+            answer: vec![9; 4],
+        };
+        let known = Panel {
+            marks,
+            times: times.concat(),
+            answer: vec![0, spans.len() as u64, 0, 0],
+        };
+        let told = [PROVED, PLAIN].map(|side| {
+            let widest = bits_of((side.widest)(bytes, k));
+            (before.ask(&side, bytes, k), widest)
+        });
+        let same = told.iter().all(|t| *t == ((true, known.clone()), widest));
+        self.tell(
+            same,
+            bytes,
+            format_args!("windows for {k}, known {known:?} {widest:?}"),
+            format_args!("{:?}", told[0]),
+            format_args!("{:?}", told[1]),
+        );
+    }
+
+    fn windows_known(&mut self) {
+        use Window::{Absent, Closed, Open};
+        let [s1, s2, s6, s8, s9, s10] = [0, 1, 5, 7, 8, 9].map(|i| SAMPLES[i].bytes);
+        self.named_windows(s1, 1, 3, &[Open(9)], None);
+        self.named_windows(s1, 2, 4, &[Open(12), Open(24)], None);
+        self.named_windows(s2, 1, 4, &[Closed(12, 20)], Some(0));
+        self.named_windows(s2, 2, 5, &[Absent; 2], None);
+        self.named_windows(s6, 1, 3, &[Absent], None);
+        let three = [Closed(1, 3), Closed(2, 4), Closed(3, 5)];
+        self.named_windows(s8, 3, 6, &three, Some(0));
+        self.named_windows(s9, 2, 4, &[Closed(8, 8); 2], Some(0));
+        let open = [Closed(0, 14), Open(21), Open(21), Open(42)];
+        self.named_windows(s10, 2, 7, &open, Some(0));
+        let under = table(1, &[vec![guard(1, UNDER, 1)]]);
+        self.named_windows(&under, 1, 3, &[Closed(0, 2)], Some(0));
+        let second = table(1, &[vec![], vec![guard(1, AT_MOST, 5)]]);
+        self.named_windows(&second, 1, 4, &[Closed(0, 20); 2], Some(0));
+        let after = table(1, &[vec![reset(1)], vec![guard(1, AT_MOST, 5)]]);
+        self.named_windows(&after, 1, 4, &[Open(0); 2], None);
+        // The second would be the wider by its seconds.
+        let equal = table(
+            2,
+            &[
+                vec![guard(2, UNDER, 1), reset(1)],
+                vec![guard(1, EXACTLY, 7), reset(1)],
+            ],
+        );
+        self.named_windows(&equal, 1, 5, &[Closed(0, 4), Closed(35, 39)], Some(0));
+    }
+
+    /// Moments of all sizes in every number of parts: where each round is over c and under c + 1 ticks, the last step of round i
+    /// is at i (c P + 1) parts at the earliest and at i ((c + 1) P - 1) at the latest.
+    fn seconds_known(&mut self) {
+        let of_rounds = (1..=1024).map(|k| (k, 1 + k % 6, 1));
+        let of_clocks = (1..=6).flat_map(|n| [(1, n, 1), (340, n, 3), (1024, n, 1), (64, n, 16)]);
+        for (k, clocks, length) in of_rounds.chain(of_clocks) {
+            let largest = [3, 40, 3999][self.random.within(0, 2)];
+            let c = self.random.within(0, largest);
+            let mut steps = vec![vec![]; length];
+            steps[length - 1] = vec![guard(1, OVER, c), guard(1, UNDER, c + 1), reset(1)];
+            let bytes = table(clocks, &steps);
+            let total = k * length;
+            let parts = (total + clocks + 1) as u64;
+            let least = c as i64 * parts as i64 + 1;
+            let most = least + parts as i64 - 2;
+            // A step before the last of its round is not before the round, nor after its last step.
+            let spans: Vec<_> = (0..total)
+                .map(|i| ((i + 1) / length, i / length + 1))
+                .map(|(done, begun)| Window::Closed(done as i64 * least, begun as i64 * most))
+                .collect();
+            let wide = |span: &Window<i64>| match *span {
+                Window::Closed(first, last) => last - first,
+                _ => 0,
+            };
+            let widest = (0..total).rev().max_by_key(|&i| wide(&spans[i]));
+            self.named_windows(&bytes, k as u64, parts, &spans, widest);
+            let shown = self.windows(&bytes, k as u64, [total, 2 * total, 4]);
+            let widest = self.widest(&bytes, k as u64);
+            self.shown(&bytes, k as u64, parts, &spans, &shown, widest);
+        }
+    }
+}
+
 /// What must occur: every refusal, and in both variants every kind of answer.
 fn kinds() -> impl Iterator<Item = String> {
     let refusals = (1..=15).map(|number| format!("refusal {number:2}"));
@@ -804,22 +1117,34 @@ fn kinds() -> impl Iterator<Item = String> {
         ]
         .map(|(question, kind)| format!("{question} {}: {kind}", variant(start)))
     });
-    refusals.chain(answers)
+    let panel = [
+        "windows: all closed",
+        "windows: all open",
+        "windows: closed and open",
+        "windows: absent",
+        "widest: closed",
+        "widest: one moment",
+        "widest: none is closed",
+    ];
+    refusals.chain(answers).chain(panel.map(String::from))
 }
 
 fn main() {
-    let (legal_tables, damaged_tables) = (4000, 4000);
+    let (legal_tables, damaged_tables, panel_tables) = (4000, 4000, 6000);
     let mut compare = Compare {
         random: Random(20),
         agreed: 0,
         differ: 0,
         seen: BTreeMap::new(),
         longest_loop: 0,
+        seconds: 0,
     };
     for s in &SAMPLES {
         compare.sample(s);
     }
     compare.limits();
+    compare.windows_known();
+    compare.seconds_known();
     for _ in 0..legal_tables {
         let bytes = legal(&mut compare.random);
         let accepted = plain::read(&bytes).is_ok();
@@ -836,14 +1161,22 @@ fn main() {
         let bytes = damaged(&mut compare.random);
         compare.all(&bytes);
     }
+    for _ in 0..panel_tables {
+        let bytes = legal(&mut compare.random);
+        let most = plain::TOTAL / plain::read(&bytes).map_or(1, |c| c.steps);
+        let k = compare.random.within(1, most);
+        compare.panel(&bytes, most as u64);
+        compare.panel(&bytes, k as u64);
+    }
     println!(
-        "{} samples and the limits, {legal_tables} legal tables, {damaged_tables} damaged ones",
+        "{} samples and the limits, {legal_tables} legal tables, {damaged_tables} damaged ones, {panel_tables} for the panel",
         SAMPLES.len()
     );
     for (what, number) in &compare.seen {
         println!("{what}: {number}");
     }
     println!("longest loop: {} moments", compare.longest_loop);
+    println!("seconds held to their fractions: {}", compare.seconds);
     let missing: Vec<String> = kinds()
         .filter(|kind| !compare.seen.contains_key(kind))
         .collect();

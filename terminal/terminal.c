@@ -1,11 +1,7 @@
 /* What a terminal shows for a timing table, at log-in or in mid-shift; `usage` says how it is asked. */
-#include "judge.h"
+#include "program.h"
 
-#include <errno.h>
 #include <inttypes.h>
-#include <stdio.h>
-#include <stdlib.h>
-#include <string.h>
 
 enum { ALLOWED = 0, NOT_ALLOWED = 1, REFUSED = 2, TROUBLE = 3 };
 
@@ -23,16 +19,10 @@ static const char usage[] =
     "Exit status: 0 the table allows rounds (with K: it allows K rounds); 1 it does not; 2 it is refused; 3 the program could\n"
     "not ask.\n";
 
-/* One byte more than a table may have, so that a longer one is seen to be longer. */
-static uint8_t table[JUDGE_TABLE + 1];
-static size_t table_len;
-
 static bool mid_shift;
 static uint64_t clocks, steps;
 static uint64_t times[JUDGE_TIMES], starts[JUDGE_STARTS], loop[JUDGE_LOOP];
 static int64_t row[JUDGE_ROW];
-
-#define ROOM(a) (a), sizeof(a) / sizeof *(a)
 
 /* The questions in the variant that is asked for. */
 static void ask_rounds(uint64_t *answer, size_t answer_len)
@@ -56,24 +46,9 @@ static const char *variant(void)
     return mid_shift ? "in mid-shift" : "from log-in";
 }
 
-static const char *plural(uint64_t n)
-{
-    return n == 1 ? "" : "s";
-}
-
 static int show_refusal(const uint64_t *answer)
 {
-    static const char *const words[] = {
-        "", "the table is longer than 4,096 bytes", "the table is cut short", "there is no record of this kind",
-        "the head is missing, misplaced or has a wrong number of clocks", "there are more than 64 guards",
-        "the table has no such clock", "there is no such relation", "the constant is above 4,000",
-        "there is no step, an unfinished one or one too many", "bytes follow the end", "the number of rounds is 0 or too large",
-        "the room for moments is too short", "the room for starts is too short", "the room for a loop is too short",
-        "the room for demands is too short",
-    };
-    uint64_t number = answer[0];
-    const char *word = number < sizeof words / sizeof *words ? words[number] : "for an unknown reason";
-    printf("refused: %s (%" PRIu64 " at %" PRIu64 ")\n", word, number, answer[1]);
+    printf("refused: %s (%" PRIu64 " at %" PRIu64 ")\n", reason(answer[0]), answer[0], answer[1]);
     return REFUSED;
 }
 
@@ -208,31 +183,6 @@ static int show_table(bool asked, uint64_t k)
     printf("; %" PRIu64 " clock%s, %" PRIu64 " step%s, %" PRIu64 " guard%s\n", clocks, plural(clocks), steps, plural(steps),
            guards, plural(guards));
     return show_plan(asked ? k : endless || count > 1 ? 2 : 1);
-}
-
-/* The table's bytes, as many as there is room for. */
-static bool load(const char *name)
-{
-    bool standard = strcmp(name, "-") == 0;
-    FILE *file = standard ? stdin : fopen(name, "rb");
-    if (file == NULL)
-        return false;
-    table_len = fread(table, 1, sizeof table, file);
-    bool whole = !ferror(file);
-    if (!standard)
-        fclose(file);
-    return whole;
-}
-
-/* A number in decimal digits and nothing else. */
-static bool number(const char *text, uint64_t *value)
-{
-    char *end;
-    if (*text < '0' || *text > '9')
-        return false;
-    errno = 0;
-    *value = strtoull(text, &end, 10);
-    return errno == 0 && *end == '\0';
 }
 
 int main(int argc, char **argv)

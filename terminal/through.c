@@ -1,5 +1,7 @@
-/* The entries, called as judge.h declares them: compare.rs, trials.rs and bench.rs link this file and call the library through it. */
+/* The entries, called as judge.h and panel.h declare them: compare.rs, trials.rs and bench.rs link this file and call the
+ * libraries through it. */
 #include "judge.h"
+#include "panel.h"
 
 bool through_read(const uint8_t *table, size_t table_len, uint64_t *answer, size_t answer_len)
 {
@@ -41,6 +43,17 @@ bool through_demands_mid_shift(const uint8_t *table, size_t table_len, uint64_t 
     return judge_demands_mid_shift(table, table_len, k, row, row_len, answer, answer_len);
 }
 
+bool through_windows(const uint8_t *table, size_t table_len, uint64_t k, uint8_t *marks, size_t marks_len, double *times,
+                     size_t times_len, uint64_t *answer, size_t answer_len)
+{
+    return panel_windows(table, table_len, k, marks, marks_len, times, times_len, answer, answer_len);
+}
+
+struct panel_widest_answer through_widest(const uint8_t *table, size_t table_len, uint64_t k)
+{
+    return panel_widest(table, table_len, k);
+}
+
 /* No argument and no result is converted on the way. */
 #define SAME(declared, ours) _Static_assert(_Generic(&declared, __typeof__(&ours): 1, default: 0), #declared)
 SAME(judge_read, through_read);
@@ -50,3 +63,16 @@ SAME(judge_plan, through_plan);
 SAME(judge_plan_mid_shift, through_plan_mid_shift);
 SAME(judge_demands, through_demands);
 SAME(judge_demands_mid_shift, through_demands_mid_shift);
+SAME(panel_windows, through_windows);
+SAME(panel_widest, through_widest);
+
+/* The record as panel.rs has it: five places of eight bytes, in this order. */
+#define AT(field, number, type)                                                                            \
+    _Static_assert(offsetof(struct panel_widest_answer, field) == 8 * number &&                            \
+                       _Generic(((struct panel_widest_answer *)0)->field, type: 1, default: 0), #field)
+AT(number, 0, uint64_t);
+AT(place, 1, uint64_t);
+AT(mark, 2, uint64_t);
+AT(first, 3, double);
+AT(last, 4, double);
+_Static_assert(sizeof(struct panel_widest_answer) == 40, "panel_widest_answer");

@@ -1,6 +1,7 @@
 //! Holds the proved library's answers to "rounds" and "plan" against a search over clock readings: thousands of small random
 //! tables, each asked for its rounds, and for plans of 1 to 5 rounds, from log-in and in mid-shift. The search shares nothing with
-//! the library or plain.rs. Also holds the two variants against each other, in counts, plans and demands.
+//! the library or plain.rs. Also holds the two variants against each other, in counts, plans and demands. The panel's windows, of
+//! rounds of few steps, are held against a search over all rows of moments.
 //!
 //! Prints how many tables and answers there were of each kind, and the first tables on which the two differ, with the question
 //! and the difference. Exit status 1 where one differs.
@@ -8,6 +9,8 @@
 #[allow(dead_code)] // All questions but "read" are asked here.
 #[path = "judge.rs"]
 mod judge;
+#[path = "panel.rs"]
+mod panel;
 
 use std::array::from_fn;
 
@@ -394,6 +397,91 @@ impl State {
     }
 }
 
+// The search over all rows of moments.
+
+/// The most steps of a row, and the most rows that are looked through.
+const ROW: usize = 4;
+const ROWS: u64 = 400_000;
+
+/// When a step happens: the earliest and the latest moment of all rows that are runs.
+type Reach = Option<(u64, u64)>;
+
+/// All rows of moments up to a last one.
+struct Rows<'a> {
+    table: &'a Table,
+    parts: u64,
+    last: u64,
+    row: [u64; ROW],
+    reach: [Reach; ROW],
+}
+
+impl Rows<'_> {
+    /// Each moment from here on, at every time that is not before the one before it.
+    fn from(&mut self, i: usize, moments: usize, readings: [u64; CLOCKS]) {
+        if i == moments {
+            for (reach, &time) in self.reach.iter_mut().zip(&self.row[..moments]) {
+                let (first, last) = reach.unwrap_or((time, time));
+                *reach = Some((first.min(time), last.max(time)));
+            }
+            return;
+        }
+        let before = if i == 0 { 0 } else { self.row[i - 1] };
+        for time in before..=self.last {
+            let at = readings.map(|reading| reading + time - before);
+            if self.table.allows(i % self.table.steps, self.parts, at) {
+                self.row[i] = time;
+                let after = self.table.after(i % self.table.steps, at);
+                self.from(i + 1, moments, after);
+            }
+        }
+    }
+}
+
+/// A window in parts: when a step may happen.
+#[derive(Clone, Copy)]
+enum Window {
+    Closed(u64, u64),
+    Open(u64),
+    Absent,
+}
+
+impl Table {
+    /// The windows of the steps of k rounds from log-in, by all rows of moments up to a last one, unless these are too many.
+    ///
+    /// Let `most` be as many parts as the guards of all steps together can hold a step from above, or keep it waiting from below;
+    /// the last moment is twice as far and one part. If there is a run, the earliest moments are one, and none is above `most`:
+    /// each is 0, that of the step before, or that of an earlier step and at most a constant and a part. A step that is bounded
+    /// from above is so by guards of different steps, one after the other from log-in, and so by `most`. The last moment adds
+    /// a bound to the last step, which comes to another only by guards from below of different steps, and so allows it `most`
+    /// and a part. So a closed window is found whole, and an open one reaches above `most`.
+    fn windows(&self, k: usize) -> Option<Vec<Window>> {
+        let (moments, parts) = (self.moments(k), self.parts(k));
+        if moments > ROW {
+            return None;
+        }
+        let most = moments as u64 * (parts * self.largest_constant() + 1);
+        let last = 2 * most + 1;
+        let rows = (1..=moments as u64).fold(1, |rows, i| rows * (last + i) / i);
+        if rows > ROWS {
+            return None;
+        }
+        let mut rows = Rows {
+            table: self,
+            parts,
+            last,
+            row: [0; ROW],
+            reach: [None; ROW],
+        };
+        rows.from(0, moments, [0; CLOCKS]);
+        let window = |reach: &Reach| match *reach {
+            None => Window::Absent,
+            Some((first, last)) if last > most => Window::Open(first),
+            Some((first, last)) => Window::Closed(first, last),
+        };
+        Some(rows.reach[..moments].iter().map(window).collect())
+    }
+}
+
 // Whether a plan is a run.
 
 impl Table {
@@ -623,6 +711,9 @@ struct Tally {
     seen: [Seen; 2],
     fewer_from_log_in: u64,
     later_from_log_in: u64,
+    /// Panels held against all rows of moments, and the windows on them: absent, open, closed.
+    panels: u64,
+    windows: [u64; 3],
 }
 
 /// A table that is asked about in a variant: the count of its rounds, and of those without strict guards.
@@ -666,8 +757,57 @@ impl Tally {
         self.fewer_from_log_in += u64::from(log_in.count != mid_shift.count);
         (1..=ROUNDS).try_for_each(|k| {
             demands_agree(table, bytes, k)?;
-            self.some_rounds(&log_in, &mid_shift, k)
+            self.some_rounds(&log_in, &mid_shift, k)?;
+            self.panel(table, bytes, k)
         })
+    }
+
+    /// The panel's two questions on k rounds, beside the search over all rows of moments, unless these are too many.
+    fn panel(&mut self, table: &Table, bytes: &[u8], k: usize) -> Result<(), String> {
+        let Some(windows) = table.windows(k) else {
+            return Ok(());
+        };
+        let total = windows.len();
+        let parts = table.parts(k);
+        let seconds = |moment: u64| moment as f64 / (10 * parts) as f64;
+        let mut marks = [KEPT as u8; ROW + 2];
+        let mut times = [KEPT as f64; 2 * ROW + 2];
+        let (mut shown, mut widest) = ((marks, times), ([0; 3], [0.0; 2]));
+        let mut width = None;
+        for (i, window) in windows.iter().enumerate() {
+            let (mark, pair) = match *window {
+                Window::Closed(first, last) => (2, [seconds(first), seconds(last)]),
+                Window::Open(first) => (1, [seconds(first), 0.0]),
+                Window::Absent => (0, [0.0; 2]),
+            };
+            shown.0[i] = mark;
+            shown.1[2 * i..2 * i + 2].copy_from_slice(&pair);
+            self.windows[usize::from(mark)] += 1;
+            if let Window::Closed(first, last) = *window {
+                if width.is_none_or(|width| last - first > width) {
+                    width = Some(last - first);
+                    widest = ([0, 0, 2], pair);
+                }
+            }
+        }
+        self.panels += 1;
+        let mut answer = [KEPT; 4];
+        let told = panel::windows(bytes, k as u64, &mut marks, &mut times, &mut answer);
+        let bits =
+            |times: &[f64]| -> Vec<u64> { times.iter().map(|time| time.to_bits()).collect() };
+        let expected = [0, total as u64, 0, 0];
+        if !told || answer != expected || marks != shown.0 || bits(&times) != bits(&shown.1) {
+            return Err(format!(
+                "windows for {k} rounds: {told} {answer:?} {marks:?} {times:?}, but by the search {shown:?}"
+            ));
+        }
+        let found = panel::widest(bytes, k as u64);
+        if found.0 != widest.0 || bits(&found.1) != bits(&widest.1) {
+            return Err(format!(
+                "widest for {k} rounds: {found:?}, but by the search {widest:?}"
+            ));
+        }
+        Ok(())
     }
 
     /// The search for k rounds, and beside it the counts and the plans, unless the grid would be too large.
@@ -899,6 +1039,9 @@ impl Tally {
             "plans that are later from log-in: {}",
             self.later_from_log_in
         );
+        println!("panels beside all rows of moments: {}", self.panels);
+        let [absent, open, closed] = self.windows;
+        println!("  windows closed, open, absent: {closed} {open} {absent}");
         println!("tables that differ: {}", self.differ);
     }
 }

@@ -31,7 +31,8 @@ pub fn in_range(k: u64, steps: usize) -> bool
     k as usize * steps <= 1024
 }
 
-fn refuse(fault: Fault) -> Admission
+// A refusal for a fault that has place 0.
+pub fn refuse(fault: Fault) -> Admission
     ensures { λ r. ⌜ r ≡ refusedFor fault ⌝ }
 {
     Admission::Refused(Refusal { fault, place: 0 })

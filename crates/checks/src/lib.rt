@@ -54,7 +54,7 @@ pub fn check(
 }
 
 // The demand of a key on a side, at moment i on a clock last reset at moment z.
-fn key_demand(upper: bool, key: u64, z: usize, i: usize) -> Demand
+pub fn key_demand(upper: bool, key: u64, z: usize, i: usize) -> Demand
     ensures { λ r. ⌜ r ≡ keyDemand upper key z i ⌝ }
 {
     if upper {

@@ -36,7 +36,7 @@ fn told(parts: u64, found: Solution) -> Outcome
 }
 
 // The plan of k rounds, or a loop.
-fn plan_rounds(
+pub fn plan_rounds(
     t: Table,
     start: Start,
     k: usize,

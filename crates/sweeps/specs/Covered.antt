@@ -72,7 +72,7 @@ module _ (up far : List ℕ) (L n K : ℕ) where
   back-among (suc i) d k =
       ⊎-elim among-last (λ l. among-before (back-among i d l)) (List·Memᴰ·append-cases (backAt up far L n K i) k)
 
-  among-back : (i s : ℕ) (d : Demand) → s < i → List·Memᴰ d (backAt up far L n K s) → List·Memᴰ d (backOf up far L n K i)
+  pub among-back : (i s : ℕ) (d : Demand) → s < i → List·Memᴰ d (backAt up far L n K s) → List·Memᴰ d (backOf up far L n K i)
   unfolding backOf
   among-back zero s d b k = absurd (omega arith)
   among-back (suc i) s d b k = go (among-back i s d) (ℕ-discrete s i)

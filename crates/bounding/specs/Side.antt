@@ -1,0 +1,53 @@
+-- The checks of one side of a step, clock by clock.
+use mathlib.Core.Path.{_≡_, subst}
+use mathlib.Core.List.{List, [], _++_}
+use Prim.Native.Nat.{ℕ, suc, _+_, _-_, _≤_, _<_}
+use native.Mathlib.Numerals.{add-one}
+use native.Mathlib.Omega.{arith}
+use lib.ListN.{getD}
+use Rattle.runs.specs.declared.Demand.{Demand}
+use Rattle.sides.specs.Sides.{Side}
+use Rattle.sides.specs.Tight.{keyDemands}
+use Rattle.last_resets.specs.Distance.{lastOf}
+use Rattle.sweeps.specs.Order.{cell, sideOf, side-none, side-more}
+use Rattle.checks.specs.SideChecks.{sideFrom}
+use Rattle.lowering.specs.Lowered.{Bounds}
+use Rattle.bounding.specs.Turns.{afterOf, Able, Turn, turn-first, turn-able, turn-more, turn-last}
+
+module _ (P : ℕ) (b : Side) (keys far : List ℕ) (K n s i : ℕ) (s₀ : Bounds) where
+  abbrev all : List Demand
+  all = sideOf b keys far K s i 1 n
+
+  pub side-first : Able P all (s₀ .late) → Turn P all s₀ (sideFrom b keys far K n s i 1) s₀
+  side-first a =
+      let e : n ≡ n + 1 - 1 = omega arith in
+      subst (λ m. Turn P all s₀ (sideOf b keys far K s i 1 m) s₀) e (turn-first P all s₀ a)
+
+  module _ (j : ℕ) (x : Bounds) (u : Turn P all s₀ (sideFrom b keys far K n s i j) x) where
+    -- clock j
+    module _ (l : j ≤ n) where
+      here : List Demand
+      here = keyDemands b (getD keys (cell s j) 0) (lastOf (getD far (cell s j) 0) K i j) (i + 1)
+
+      left : sideFrom b keys far K n s i j ≡ here ++ sideFrom b keys far K n s i (j + 1)
+      unfolding here
+      left =
+          let g : n + 1 - j ≡ suc (n + 1 - (j + 1)) = omega arith in
+          rw (g, add-one j, add-one i) (side-more b keys far K s i j (n + 1 - suc j))
+
+      pub side-able : Able P (keyDemands b (getD keys (cell s j) 0) (lastOf (getD far (cell s j) 0) K i j) (i + 1)) (x .late)
+      unfolding here
+      side-able = turn-able P all s₀ _ here _ left x u
+
+      pub side-next : (x′ : Bounds)
+          → x′ ≡ afterOf P (keyDemands b (getD keys (cell s j) 0) (lastOf (getD far (cell s j) 0) K i j) (i + 1)) x
+          → Turn P all s₀ (sideFrom b keys far K n s i (j + 1)) x′
+      unfolding here
+      side-next x′ c = turn-more P all s₀ _ here _ left x u x′ c
+
+    -- past the last clock
+    pub side-last : n < j → x ≡ afterOf P all s₀
+    side-last l =
+        let e : n + 1 - j ≡ 0 = omega arith in
+        let none : sideFrom b keys far K n s i j ≡ [] = rw e (side-none b keys far K s i j) in
+        turn-last P all s₀ x (subst (λ ds. Turn P all s₀ ds x) none u)

@@ -1,0 +1,203 @@
+// The last moments of the steps of k rounds: bounds from above, lowered by checks of the demands until all of them hold.
+use bounding::bound;
+use bounding::bound_side;
+use constraints::following;
+use constraints::not_after;
+use last_resets::preceding;
+ghost use mathlib.Core.Path.{_≡_};
+ghost use Prim.Native.Nat.{_-_, _%_, _≤_, _<_};
+ghost use Rattle.ways.specs.Forth.{Going};
+ghost use Rattle.lowering.specs.Bounded.{Bounded};
+ghost use Rattle.lowering.specs.Outcome.{Greatest};
+ghost use Rattle.latest.specs.Steps.{forthParts, stepParts};
+ghost use Rattle.latest.specs.Descent.{Descended};
+ghost use Rattle.latest.specs.Ascent.{Stepped, Ascended};
+
+// No moment: there are at most so many.
+const NEVER: usize = 1031;
+
+// How far an ascent has come: whether it has lowered a bound, the step to go on with, and how many steps it may still go back.
+struct Way {
+    hit: bool,
+    next: usize,
+    left: usize,
+}
+
+// The checks back over the steps before `from`, from the last of them on: the order demand of each, then its tightest guards from
+// below. They stop at a moment below which nothing is lowered, neither by them nor, as the caller says with `floor`, before them. The
+// answer is such a moment. Step `from` is step `first` of its round.
+fn descend(
+    low: &[u64],
+    far: &[usize],
+    steps: usize,
+    clocks: usize,
+    total: usize,
+    parts: u64,
+    from: usize,
+    first: usize,
+    floor: usize,
+    late: &mut [u64],
+) -> usize
+    requires { ⌜ Going (now low) (now far) steps clocks total × (from ≤ total) × (first ≡ from % steps)
+        × Bounded parts (forthParts parts (now low) (now far) steps clocks total) (now late) ⌝ }
+    ensures { λ r. ⌜ Descended parts (now (low .entry)) (now (far .entry)) steps clocks total from floor
+        (now (late .entry)) (now (late .exit)) r ⌝ }
+{
+    let mut i = from;
+    let mut s = first;
+    let mut lowest = floor;
+    while 0 < i {
+        if i < lowest {
+            return lowest;
+        }
+        s = preceding(s, steps);
+        i -= 1;
+        let ordered = bound(parts, not_after(i + 1, i), late, lowest);
+        lowest = bound_side(false, low, far, clocks, total, s, i, parts, late, ordered);
+    }
+    lowest
+}
+
+// What is left of a number when another is taken away, 0 at the least.
+fn less(a: usize, b: usize) -> usize
+    ensures { λ r. ⌜ r ≡ a - b ⌝ }
+{
+    if a < b { 0 } else { a - b }
+}
+
+// The checks of step i forth, its tightest guards from above. Where they lower it, and steps are left to go back, the checks back from
+// it follow at once, and the ascent goes on after the lowest moment that they lower. It is step s of its round.
+fn ascend_step(
+    low: &[u64],
+    up: &[u64],
+    far: &[usize],
+    steps: usize,
+    clocks: usize,
+    total: usize,
+    parts: u64,
+    s: usize,
+    i: usize,
+    left: usize,
+    late: &mut [u64],
+    hit: bool,
+) -> Way
+    requires { ⌜ Going (now low) (now far) steps clocks total × Going (now up) (now far) steps clocks total × (i < total)
+        × (s ≡ i % steps) × Bounded parts (stepParts parts (now low) (now up) (now far) steps clocks total) (now late) ⌝ }
+    ensures { λ r. ⌜ Stepped parts (now (low .entry)) (now (up .entry)) (now (far .entry)) steps clocks total i hit
+        (now (late .entry)) (now (late .exit)) (r .hit) (r .next) ⌝ }
+{
+    let lowest = bound_side(true, up, far, clocks, total, s, i, parts, late, NEVER);
+    if NEVER <= lowest {
+        return Way {
+            hit,
+            next: i + 1,
+            left,
+        };
+    }
+    if left == 0 {
+        return Way {
+            hit: true,
+            next: i + 1,
+            left,
+        };
+    }
+    let after = following(s, steps);
+    let next = descend(
+        low,
+        far,
+        steps,
+        clocks,
+        total,
+        parts,
+        i + 1,
+        after,
+        i + 1,
+        late,
+    );
+    Way {
+        hit: true,
+        next,
+        left: less(left, i + 2 - next),
+    }
+}
+
+// The step of its round that step `next` is, when step i is step s.
+fn step_of(s: usize, i: usize, next: usize, steps: usize) -> usize
+    requires { ⌜ (0 < steps) × (steps ≤ 16) × (i < 1024) × (s ≡ i % steps) ⌝ }
+    ensures { λ r. ⌜ r ≡ next % steps ⌝ }
+{
+    if next == i + 1 {
+        return following(s, steps);
+    }
+    next % steps
+}
+
+// The checks forth over all steps, with so many steps to go back: whether they have lowered a bound.
+fn ascend(
+    low: &[u64],
+    up: &[u64],
+    far: &[usize],
+    steps: usize,
+    clocks: usize,
+    total: usize,
+    parts: u64,
+    left: usize,
+    late: &mut [u64],
+) -> bool
+    requires { ⌜ Going (now low) (now far) steps clocks total × Going (now up) (now far) steps clocks total
+        × Bounded parts (stepParts parts (now low) (now up) (now far) steps clocks total) (now late) ⌝ }
+    ensures { λ r. ⌜ Ascended parts (now (low .entry)) (now (up .entry)) (now (far .entry)) steps clocks total
+        (now (late .entry)) (now (late .exit)) r ⌝ }
+{
+    let mut way = Way {
+        hit: false,
+        next: 0,
+        left,
+    };
+    let mut i: usize = 0;
+    let mut s: usize = 0;
+    while i < total {
+        way = ascend_step(
+            low,
+            up,
+            far,
+            steps,
+            clocks,
+            total,
+            parts,
+            s,
+            i,
+            way.left,
+            late,
+            way.hit,
+        );
+        s = step_of(s, i, way.next, steps);
+        i = way.next;
+    }
+    way.hit
+}
+
+// Lowers the bounds until all demands of the steps hold: once forth over all steps, then back and forth in turn, until nothing is
+// lowered on the way forth. After the first of them, a way forth may go back sixteen times as many steps as there are.
+pub fn settle(
+    low: &[u64],
+    up: &[u64],
+    far: &[usize],
+    steps: usize,
+    clocks: usize,
+    total: usize,
+    parts: u64,
+    late: &mut [u64],
+)
+    requires { ⌜ Going (now low) (now far) steps clocks total × Going (now up) (now far) steps clocks total × (total % steps ≡ 0)
+        × Bounded parts (stepParts parts (now low) (now up) (now far) steps clocks total) (now late) ⌝ }
+    ensures { λ _. ⌜ Greatest parts (stepParts parts (now (low .entry)) (now (up .entry)) (now (far .entry)) steps clocks total)
+        (now (late .entry)) (now (late .exit)) ⌝ }
+{
+    let begun = ascend(low, up, far, steps, clocks, total, parts, 0, late);
+    let mut hit = true;
+    while hit {
+        let bottom = descend(low, far, steps, clocks, total, parts, total, 0, 0, late);
+        hit = ascend(low, up, far, steps, clocks, total, parts, 16 * total, late);
+    }
+}

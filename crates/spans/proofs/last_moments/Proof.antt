@@ -1,0 +1,82 @@
+-- The bounds begin as they must, and the rows are those of the table.
+use mathlib.Core.Path.{refl, _∙_}
+use borrow.Author.Needs.{needs}
+use Rattle.spans.specs.Exact.{filled-size, filled-begins, rows-going, rows-bounded, rows-bounding, whole}
+use Rattle.spans.proofs.last_moments.Statement.{statement}
+use Rattle.spans.proofs.last_moments.Tie as tie
+
+mul-total : tie.Need-mul-total
+mul-total c = search needs
+
+add-fill : tie.Need-add-fill
+add-fill c = search needs
+
+add-fill-2 : tie.Need-add-fill-2
+add-fill-2 c = search needs
+
+fill-requires : tie.Need-fill-requires
+fill-requires c κs = search needs
+
+add-fill-3 : tie.Need-add-fill-3
+add-fill-3 c = search needs
+
+fill-requires-2 : tie.Need-fill-requires-2
+fill-requires-2 c κs = search needs
+
+slice-write-late : tie.Need-slice-write-late
+slice-write-late c = search needs
+
+keys-requires : tie.Need-keys-requires
+keys-requires c κs = search needs
+
+keys-requires-2 : tie.Need-keys-requires-2
+keys-requires-2 c κs = search needs
+
+distances-requires : tie.Need-distances-requires
+distances-requires c κs = search needs
+
+slice-aggregate-settle : tie.Need-slice-aggregate-settle
+slice-aggregate-settle c = search needs
+
+slice-aggregate-settle-2 : tie.Need-slice-aggregate-settle-2
+slice-aggregate-settle-2 c = search needs
+
+slice-aggregate-settle-3 : tie.Need-slice-aggregate-settle-3
+slice-aggregate-settle-3 c = search needs
+
+settle-requires : tie.Need-settle-requires
+settle-requires c κs =
+    let b = c .before .before .before .before .before .before .before .before .before .before .before .before .before .before .before .before .before .before in
+    let g = rows-going _ _ (b .pre .0) _ _ _ (c .before .before .before .before .before .before .keys .ensures) (c .before .before .before .before .before .keys2 .ensures) (c .before .before .before .before .distances .ensures) _ (b .pre .2) in
+    (g .0, g .1, whole _ _ (b .pre .0), rows-bounded _ _ (b .pre .0) _ _ _ (c .before .before .before .before .before .before .keys .ensures) (c .before .before .before .before .before .keys2 .ensures) (c .before .before .before .before .distances .ensures) _ (b .pre .2) (b .pre .1) _ (filled-begins _ _ (b .pre .0) _ _ _ _ (b .pre .3) (c .before .before .before .before .before .before .before .before .before .before .before .before .before .fill .ensures) (c .before .before .before .before .before .before .before .before .before .fill2 .ensures) refl))
+
+same-length : tie.Need-same-length
+same-length c =
+    let b = c .before .before .before .before .before .before .before .before .before .before .before .before .before .before .before .before .before .before .before .before .before in
+    c .before .before .settle .ensures .falling .size ∙ filled-size _ _ (b .pre .0) _ _ _ _ (b .pre .3) (c .before .before .before .before .before .before .before .before .before .before .before .before .before .before .before .before .fill .ensures) (c .before .before .before .before .before .before .before .before .before .before .before .before .fill2 .ensures) refl
+
+returns : tie.Need-returns
+returns c =
+    let b = c .before .before .before .before .before .before .before .before .before .before .before .before .before .before .before .before .before .before .before .before .before in
+    (refl, rows-bounding _ _ (b .pre .0) _ _ _ (c .before .before .before .before .before .before .before .before .before .keys .ensures) (c .before .before .before .before .before .before .before .before .keys2 .ensures) (c .before .before .before .before .before .before .before .distances .ensures) _ (b .pre .2) _ _ (filled-begins _ _ (b .pre .0) _ _ _ _ (b .pre .3) (c .before .before .before .before .before .before .before .before .before .before .before .before .before .before .before .before .fill .ensures) (c .before .before .before .before .before .before .before .before .before .before .before .before .fill2 .ensures) refl) (c .before .before .settle .ensures))
+
+pub last-moments-spec : {M : Type 1} → statement M
+last-moments-spec =
+    tie.close
+    (tie.spec
+    mul-total
+    add-fill
+    add-fill-2
+    fill-requires
+    add-fill-3
+    fill-requires-2
+    slice-write-late
+    keys-requires
+    keys-requires-2
+    distances-requires
+    slice-aggregate-settle
+    slice-aggregate-settle-2
+    slice-aggregate-settle-3
+    settle-requires
+    same-length
+    returns)
