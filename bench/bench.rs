@@ -50,15 +50,25 @@ const S9: &[u8] = include_bytes!("../samples/S9.table");
 const S10: &[u8] = include_bytes!("../samples/S10.table");
 const S11: &[u8] = include_bytes!("../samples/S11.table");
 
-/// 4,096 bytes: 64 guards, 15 steps, and resets.
+/// 531 bytes, the longest table: sixteen steps with four guards and six resets each.
 fn longest() -> Vec<u8> {
+    let guards: Vec<u8> = (1..=4).flat_map(|i| guard(i, AT_MOST, 4000)).collect();
+    let resets: Vec<u8> = (1..=6).flat_map(reset).collect();
+    table(6, &vec![[guards, resets].concat(); 16])
+}
+
+/// 324 bytes: 64 guards in a step, and no reset.
+fn guards_only() -> Vec<u8> {
     let guards: Vec<u8> = (0..64)
         .flat_map(|i| guard(i % 6 + 1, AT_MOST, 4000))
         .collect();
-    let resets: Vec<u8> = (0..1879).flat_map(|i| reset((i % 6) as u8 + 1)).collect();
-    let mut steps = vec![Vec::new(); 14];
-    steps.push([guards, resets].concat());
-    table(6, &steps)
+    table(6, &[guards])
+}
+
+/// 211 bytes: sixteen steps with six resets each, and no guard.
+fn resets_only() -> Vec<u8> {
+    let resets: Vec<u8> = (1..=6).flat_map(reset).collect();
+    table(6, &vec![resets; 16])
 }
 
 /// Six clocks, sixteen steps, 64 guards, rounds without end: each step asks something of four clocks.
@@ -550,7 +560,9 @@ fn main() {
     }
     println!(" {:>9}", "mid-shift");
     bench_read("S1, 11 bytes", S1);
-    bench_read("4,096 bytes", &longest());
+    bench_read("324 bytes, 64 guards", &guards_only());
+    bench_read("211 bytes, 96 resets", &resets_only());
+    bench_read("531 bytes, the longest", &longest());
     bench_rounds("S2", S2);
     bench_rounds("S11", S11);
     bench_rounds("6 clocks, 16 steps, 64 guards", &largest());

@@ -37,6 +37,7 @@ pub enum Fault {
     Starts,
     Loop,
     List,
+    Twice,
 }
 
 /// A fault and the place of the byte that it is found at, or 0.
@@ -274,6 +275,8 @@ struct Records<'a> {
     counted: Counted,
     /// Whether a guard or reset stands since the last finished step.
     open: bool,
+    /// The clocks reset since then, as bits.
+    reset: u8,
 }
 
 impl<'a> Records<'a> {
@@ -289,6 +292,7 @@ impl<'a> Records<'a> {
             at: 0,
             counted: Counted::default(),
             open: false,
+            reset: 0,
         })
     }
 
@@ -334,7 +338,11 @@ impl<'a> Records<'a> {
                 if !self.has(clock) {
                     return refuse(Fault::Timer);
                 }
+                if self.reset >> clock & 1 == 1 {
+                    return refuse(Fault::Twice);
+                }
                 self.open = true;
+                self.reset |= 1 << clock;
                 self.at += 2;
                 Ok(Record::Reset(clock))
             }
@@ -344,6 +352,7 @@ impl<'a> Records<'a> {
                 }
                 self.counted.steps += 1;
                 self.open = false;
+                self.reset = 0;
                 self.at += 1;
                 Ok(Record::Step)
             }

@@ -167,11 +167,16 @@ fn legal(random: &mut Random) -> Vec<u8> {
     table(clocks, &steps)
 }
 
+/// Resets of some clocks, each once.
 fn some_resets(random: &mut Random, clocks: usize) -> Vec<Vec<u8>> {
-    let number = [0, 1, 1, 2, 3, 8][random.within(0, 5)];
-    (0..number)
-        .map(|_| reset(random.within(1, clocks)))
-        .collect()
+    let mut resets = Vec::new();
+    for _ in 0..[0, 1, 1, 2, 3, 8][random.within(0, 5)] {
+        let one = reset(random.within(1, clocks));
+        if !resets.contains(&one) {
+            resets.push(one);
+        }
+    }
+    resets
 }
 
 /// Any guards and resets, with constants up to a largest.
@@ -248,7 +253,7 @@ fn scheduled(random: &mut Random, clocks: usize, length: usize) -> Vec<Vec<Vec<u
 fn damaged(random: &mut Random) -> Vec<u8> {
     let mut bytes = legal(random);
     let place = random.within(0, bytes.len() - 1);
-    match random.within(0, 9) {
+    match random.within(0, 10) {
         0 => {
             for _ in 0..random.within(1, 3) {
                 let place = random.within(0, bytes.len() - 1);
@@ -275,6 +280,7 @@ fn damaged(random: &mut Random) -> Vec<u8> {
             bytes.extend(random.bytes(number, 6));
         }
         8 => too_much(random, &mut bytes),
+        9 => reset_again(random, &mut bytes),
         _ => long(random, &mut bytes),
     }
     bytes
@@ -294,7 +300,25 @@ fn too_much(random: &mut Random, bytes: &mut Vec<u8>) {
     bytes.splice(2..2, more);
 }
 
-/// Puts resets after the head, up to the longest table, or one byte more or up to 5,000 bytes.
+/// Puts resets, at times of a clock that the table does not have, before some records of a legal table: of a clock that the step
+/// resets already, or only an earlier or a later one.
+fn reset_again(random: &mut Random, bytes: &mut Vec<u8>) {
+    let clocks = usize::from(bytes[1]);
+    for _ in 0..random.within(1, 3) {
+        let mut places = Vec::new();
+        let mut at = 2;
+        while at < bytes.len() {
+            places.push(at);
+            at += [1, 2, 5, 2, 1, 1][usize::from(bytes[at])];
+        }
+        let place = places[random.within(0, places.len() - 1)];
+        let past = usize::from(random.one_in(5));
+        let clock = random.within(1, clocks + past);
+        bytes.splice(place..place, reset(clock));
+    }
+}
+
+/// Puts resets after the head, up to the longest that is read, or one byte more or up to 5,000 bytes.
 fn long(random: &mut Random, bytes: &mut Vec<u8>) {
     let length = [4095, 4096, 4097, random.within(4000, 5000)][random.within(0, 3)];
     bytes.splice(2..2, reset(1).repeat((length - bytes.len()) / 2));
@@ -959,6 +983,22 @@ impl Compare {
         let long = |n| [vec![1, 1], reset(1).repeat(n), vec![4, 5]].concat();
         let guards = |n| table(1, &[vec![guard(1, AT_LEAST, 1); n]]);
         let steps = |n| table(1, &vec![vec![]; n]);
+        let twice = |between: Vec<u8>| {
+            let step = [reset(1), between, reset(1)].concat();
+            table(2, &[vec![step]])
+        };
+        // The longest legal table, and with so many guards and resets more in its last step.
+        let full = |guards: usize, resets: usize| {
+            let step = |guards, resets| {
+                let guards = vec![guard(6, AT_MOST, 4000); guards];
+                let resets = (1..=6).chain(vec![6; resets]).map(reset).collect();
+                [guards, resets].concat()
+            };
+            let mut all = vec![step(4, 0); 15];
+            all.push(step(4 + guards, resets));
+            table(6, &all)
+        };
+        assert_eq!(full(0, 0).len(), 531);
         let of_bytes = [
             (vec![], [2, 0, 0, 0]),
             (vec![1], [2, 0, 0, 0]),
@@ -967,8 +1007,17 @@ impl Compare {
             (clocks(6), [0, 6, 1, 0]),
             (clocks(0), [4, 0, 0, 0]),
             (clocks(7), [4, 0, 0, 0]),
-            (long(2046), [0, 1, 1, 0]),
+            (long(2046), [16, 4, 0, 0]),
             (long(2047), [1, 4096, 0, 0]),
+            (full(0, 0), [0, 6, 16, 64]),
+            (full(1, 0), [5, 517, 0, 0]),
+            (full(0, 1), [16, 529, 0, 0]),
+            (twice(vec![]), [16, 4, 0, 0]),
+            (twice(guard(1, UNDER, 1)), [16, 9, 0, 0]),
+            (twice(vec![4]), [0, 2, 2, 0]),
+            (twice(vec![4, 3, 2, 4]), [0, 2, 3, 0]),
+            (twice(reset(2)), [16, 6, 0, 0]),
+            (twice(reset(3)), [6, 4, 0, 0]),
             (guards(64), [0, 1, 1, 64]),
             (guards(65), [5, 322, 0, 0]),
             (steps(16), [0, 1, 16, 0]),

@@ -1,6 +1,7 @@
 /* Four questions about a timing table, answered by the proved library libjudge.a.
  *
- * A table has n clocks (1 to 6), L steps a round (1 to 16) and at most 64 guards. Time is counted in parts, P to a tick.
+ * A table has n clocks (1 to 6), L steps a round (1 to 16), which reset each clock once at most, and at most 64 guards. Time is
+ * counted in parts, P to a tick.
  *
  * Where a run starts
  *   - At log-in: every clock reads 0, as log-in sets it. judge_rounds, judge_plan and judge_demands mean this. A terminal that
@@ -32,6 +33,7 @@
  *    4 head      n is not 1 to 6                                          its kind byte
  *    5 bounds    a guard is the 65th                                      its kind byte
  *    6 timer     the clock of a guard or reset is not 1 to n              its kind byte
+ *   16 twice     the clock of a reset is reset already in the same step   its kind byte
  *    7 relation  a guard's relation is above 4                            its kind byte
  *    8 constant  a guard's constant is above 4,000                        its kind byte
  *    9 steps     a finished step is the 17th                              its kind byte
@@ -57,7 +59,8 @@ extern "C" {
 /* The most places that a room can need. */
 enum {
     JUDGE_ANSWER = 4,
-    JUDGE_TABLE = 4096,
+    JUDGE_TABLE = 4096,  /* more bytes are refused unread */
+    JUDGE_LONGEST = 531, /* no longer table is accepted: 64 guards, 16 steps, 6 resets in each */
     JUDGE_TIMES = 1024,
     JUDGE_STARTS = 6,
     JUDGE_LOOP = 1031,
@@ -66,14 +69,14 @@ enum {
 
 /* Read: what the table has.
  *   { 0, n, L, number of guards }
- * or a refusal 1 to 10. */
+ * or a refusal 1 to 10, or 16. */
 bool judge_read(const uint8_t *table, size_t table_len,
                 uint64_t *answer, size_t answer_len);
 
 /* Rounds: the greatest number of rounds, 0 included, that has a run from log-in.
  *   { 0, 0, count, 0 }         The count, below 2^32.
  *   { 0, 1, 0, 0 }             Without end: every number of rounds has a run.
- * or a refusal 1 to 10. */
+ * or a refusal 1 to 10, or 16. */
 bool judge_rounds(const uint8_t *table, size_t table_len,
                   uint64_t *answer, size_t answer_len);
 
@@ -90,7 +93,7 @@ bool judge_rounds_mid_shift(const uint8_t *table, size_t table_len,
  *                              0 to k L + n, with a demand from each to the next and from the last to the first; the
  *                              tightest of these sum to below 0, or to 0 with a strict one among them. Which loop is written
  *                              is not fixed. `times` and `starts` are kept.
- * or a refusal 1 to 14. */
+ * or a refusal 1 to 14, or 16. */
 bool judge_plan(const uint8_t *table, size_t table_len, uint64_t k,
                 uint64_t *times, size_t times_len,
                 uint64_t *starts, size_t starts_len,
@@ -112,7 +115,7 @@ bool judge_plan_mid_shift(const uint8_t *table, size_t table_len, uint64_t k,
  *                              k L + j is the last reset of clock j before the start. The number is k (L + G) + 2 n, where G
  *                              is the number of guards, with exact ones counted twice. The last 2 n are, for each clock j,
  *                              { 0, k L + j, 0, 0 } and { k L + j, 0, 0, 0 }: its last reset is at the start.
- * or a refusal 1 to 11, or 15. */
+ * or a refusal 1 to 11, 15 or 16. */
 bool judge_demands(const uint8_t *table, size_t table_len, uint64_t k,
                    int64_t *row, size_t row_len,
                    uint64_t *answer, size_t answer_len);

@@ -21,7 +21,7 @@
  *     Of the system, memcpy and memset are asked, and nothing else.
  *
  * Refusals, in the order of the tests, with the place that each gives
- *    1 to 10     the table's, as in judge.h
+ *  1 to 10, 16  the table's, as in judge.h
  *   11 rounds    k is 0, or k L is above 1,024                                                         0
  *   12 times     windows: `marks` has fewer than k L places, or `times` fewer than 2 k L               0
  */
@@ -55,7 +55,7 @@ enum {
  *                              (absent), and times[2 i] and times[2 i + 1] are the earliest and the latest second. What there is
  *                              not is 0.0: the latest of an open window, and both of an absent one. Also where no run exists
  *                              all k L marks and 2 k L times are written. The rest of both rooms is kept.
- * or a refusal 1 to 12: { number, place of a byte, 0, 0 }, and no other room changes.
+ * or a refusal 1 to 12, or 16: { number, place of a byte, 0, 0 }, and no other room changes.
  * `answer` needs 4 places. With fewer, false is returned and no room changes. Otherwise true is returned and the first 4 places
  * of `answer` hold the answer. */
 bool panel_windows(const uint8_t *table, size_t table_len, uint64_t k,
@@ -65,7 +65,7 @@ bool panel_windows(const uint8_t *table, size_t table_len, uint64_t k,
 
 /* The answer to "widest". */
 struct panel_widest_answer {
-    uint64_t number; /* 0, or the number of a refusal 1 to 11 */
+    uint64_t number; /* 0, or the number of a refusal 1 to 11, or 16 */
     uint64_t place;  /* the refusal's; else 0 */
     uint64_t mark;   /* 2, or 0 where no window is closed */
     double first;    /* the earliest second */
@@ -76,7 +76,7 @@ struct panel_widest_answer {
  *   { 0, 0, 2, first, last }   The widest, latest less earliest in exact parts, and of equally wide ones that of the first step.
  *                              One moment is a window too, with a width of 0.
  *   { 0, 0, 0, 0.0, 0.0 }      No window is closed: each step can be put off without end, or no run exists.
- * or a refusal 1 to 11: { number, place of a byte, 0, 0.0, 0.0 }. */
+ * or a refusal 1 to 11, or 16: { number, place of a byte, 0, 0.0, 0.0 }. */
 struct panel_widest_answer panel_widest(const uint8_t *table, size_t table_len, uint64_t k);
 
 #ifdef __cplusplus

@@ -54,7 +54,7 @@ static const char *reason(uint64_t refusal)
         "the table has no such clock", "there is no such relation", "the constant is above 4,000",
         "there is no step, an unfinished one or one too many", "bytes follow the end", "the number of rounds is 0 or too large",
         "the room for moments is too short", "the room for starts is too short", "the room for a loop is too short",
-        "the room for demands is too short",
+        "the room for demands is too short", "the clock is reset already in the same step",
     };
     return refusal < sizeof reasons / sizeof *reasons ? reasons[refusal] : "for an unknown reason";
 }

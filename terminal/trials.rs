@@ -39,6 +39,35 @@ impl Start {
             Start::MidShift => "in mid-shift",
         }
     }
+
+    fn rounds(self, bytes: &[u8], answer: &mut [u64]) -> bool {
+        match self {
+            Start::LogIn => judge::rounds(bytes, answer),
+            Start::MidShift => judge::rounds_mid_shift(bytes, answer),
+        }
+    }
+
+    fn plan(
+        self,
+        bytes: &[u8],
+        k: usize,
+        [times, starts, room]: [&mut [u64]; 3],
+        answer: &mut [u64],
+    ) -> bool {
+        let plan = match self {
+            Start::LogIn => judge::plan,
+            Start::MidShift => judge::plan_mid_shift,
+        };
+        plan(bytes, k as u64, times, starts, room, answer)
+    }
+
+    fn demands(self, bytes: &[u8], k: usize, row: &mut [i64], answer: &mut [u64]) -> bool {
+        let demands = match self {
+            Start::LogIn => judge::demands,
+            Start::MidShift => judge::demands_mid_shift,
+        };
+        demands(bytes, k as u64, row, answer)
+    }
 }
 
 /// Random numbers by the generator of Park and Miller.
@@ -93,27 +122,15 @@ impl Guard {
     }
 }
 
-/// Where a step's resets are written: before its guards, after them, or at both places.
-#[derive(Clone, Copy)]
-struct Order {
-    before: bool,
-    after: bool,
+/// Where a step's resets are written: after its guards, before them, or before them and once more after them, which is refused.
+#[derive(Clone, Copy, PartialEq)]
+enum Order {
+    After,
+    Before,
+    Twice,
 }
 
-const ORDERS: [Order; 3] = [
-    Order {
-        before: false,
-        after: true,
-    },
-    Order {
-        before: true,
-        after: false,
-    },
-    Order {
-        before: true,
-        after: true,
-    },
-];
+const ORDERS: [Order; 3] = [Order::After, Order::Before, Order::Twice];
 
 /// A small table. Of resets and orders only those of its own steps and clocks count.
 struct Table {
@@ -185,28 +202,38 @@ impl Table {
         (0..self.clocks).filter(move |&clock| self.resets[step][clock])
     }
 
-    /// The table as bytes.
+    /// The table as bytes, with each reset of a step once.
     fn bytes(&self) -> Vec<u8> {
+        self.written(false).0
+    }
+
+    /// The table as bytes, with resets once more where the order says so; and the place of the first that is there already.
+    fn written(&self, twice: bool) -> (Vec<u8>, Option<usize>) {
         let mut bytes = vec![1, self.clocks as u8];
+        let mut repeated = None;
         for step in 0..self.steps {
             let resets: Vec<u8> = self
                 .resets_of(step)
                 .flat_map(|clock| [3, clock as u8 + 1])
                 .collect();
-            if self.orders[step].before {
+            let order = self.orders[step];
+            if order != Order::After {
                 bytes.extend(&resets);
             }
             for guard in self.guards_of(step) {
                 let (clock, constant) = (guard.clock as u8 + 1, guard.constant as u8);
                 bytes.extend([2, clock, guard.relation as u8, constant, 0]);
             }
-            if self.orders[step].after {
+            if order == Order::Twice && twice && !resets.is_empty() {
+                repeated.get_or_insert(bytes.len());
+            }
+            if order == Order::After || order == Order::Twice && twice {
                 bytes.extend(&resets);
             }
             bytes.push(4);
         }
         bytes.push(5);
-        bytes
+        (bytes, repeated)
     }
 
     /// The table with weak guards in place of strict ones.
@@ -623,10 +650,7 @@ fn kept(room: &[u64], from: usize) -> bool {
 /// The count that "rounds" answers, or None: without end.
 fn rounds(bytes: &[u8], start: Start) -> Result<Option<u64>, String> {
     let mut answer = [KEPT; 4];
-    let told = match start {
-        Start::LogIn => judge::rounds(bytes, &mut answer),
-        Start::MidShift => judge::rounds_mid_shift(bytes, &mut answer),
-    };
+    let told = start.rounds(bytes, &mut answer);
     match (told, answer) {
         (true, [0, 0, count, 0]) => Ok(Some(count)),
         (true, [0, 1, 0, 0]) => Ok(None),
@@ -651,10 +675,7 @@ fn demands(bytes: &[u8], start: Start, k: usize) -> Result<Vec<[i64; 4]>, String
     const KEPT: i64 = self::KEPT as i64;
     let mut row = [KEPT; 4 * (MOMENTS + 2 * GUARDS * ROUNDS + 2 * CLOCKS)];
     let mut answer = [self::KEPT; 4];
-    let told = match start {
-        Start::LogIn => judge::demands(bytes, k as u64, &mut row, &mut answer),
-        Start::MidShift => judge::demands_mid_shift(bytes, k as u64, &mut row, &mut answer),
-    };
+    let told = start.demands(bytes, k, &mut row, &mut answer);
     if let (true, [0, number, 0, 0]) = (told, answer) {
         if let Some((first, rest)) = row.split_at_checked(4 * number as usize) {
             if rest.iter().all(|&place| place == KEPT) {
@@ -686,6 +707,46 @@ fn demands_agree(table: &Table, bytes: &[u8], k: usize) -> Result<(), String> {
     Ok(())
 }
 
+/// Every question refuses bytes in which a reset is repeated, at its place, and changes no room.
+fn refused_twice(bytes: &[u8], place: usize) -> Result<(), String> {
+    const SIGNED: i64 = KEPT as i64;
+    let expected = [16, place as u64, 0, 0];
+    let same = |question: &str, told: bool, answer: [u64; 4], kept: bool| {
+        if told && answer == expected && kept {
+            return Ok(());
+        }
+        let kept = if kept { "kept" } else { "changed" };
+        Err(format!(
+            "{question}: {told} {answer:?} and rooms {kept}, not {expected:?}"
+        ))
+    };
+    let mut answer = [KEPT; 4];
+    let told = judge::read(bytes, &mut answer);
+    same("read", told, answer, true)?;
+    for start in STARTS {
+        let told = start.rounds(bytes, &mut answer);
+        same("rounds", told, answer, true)?;
+        let (mut times, mut starts, mut room) = ([KEPT; MOMENTS], [KEPT; CLOCKS], [KEPT; MOMENTS]);
+        let rooms: [&mut [u64]; 3] = [&mut times, &mut starts, &mut room];
+        let told = start.plan(bytes, 1, rooms, &mut answer);
+        let all_kept = kept(&times, 0) && kept(&starts, 0) && kept(&room, 0);
+        same("plan", told, answer, all_kept)?;
+        let mut row = [SIGNED; 4 * MOMENTS];
+        let told = start.demands(bytes, 1, &mut row, &mut answer);
+        let all_kept = row.iter().all(|&place| place == SIGNED);
+        same("demands", told, answer, all_kept)?;
+    }
+    let (mut marks, mut times) = ([KEPT as u8; MOMENTS], [KEPT as f64; 2 * MOMENTS]);
+    let told = panel::windows(bytes, 1, &mut marks, &mut times, &mut answer);
+    let all_kept = marks == [KEPT as u8; MOMENTS] && times == [KEPT as f64; 2 * MOMENTS];
+    same("windows", told, answer, all_kept)?;
+    let (widest, _) = panel::widest(bytes, 1);
+    if widest != [16, place as u64, 0] {
+        return Err(format!("widest: {widest:?}, not 16 at {place}"));
+    }
+    Ok(())
+}
+
 /// What was seen in one variant, by kind; where there are five places, for 1 to 5 rounds.
 #[derive(Default)]
 struct Seen {
@@ -703,6 +764,8 @@ struct Seen {
 struct Tally {
     tables: u64,
     differ: u64,
+    /// Tables that were also written with a reset repeated, and refused.
+    repeated: u64,
     /// Grids that are too large.
     skipped: [u64; ROUNDS],
     /// Grids with twice the parts.
@@ -738,8 +801,14 @@ impl Asked<'_> {
 }
 
 impl Tally {
-    /// A table put to "rounds", and to "demands" and "plan" for 1 to 5 rounds: the first difference.
+    /// A table put to all questions with a reset repeated, if it has one where it may be; and, with each once, to "rounds", and to
+    /// "demands" and "plan" for 1 to 5 rounds: the first difference.
     fn table(&mut self, table: &Table, bytes: &[u8]) -> Result<(), String> {
+        if let (repeated, Some(place)) = table.written(true) {
+            self.repeated += 1;
+            refused_twice(&repeated, place)
+                .map_err(|what| format!("with a reset twice: {what}"))?;
+        }
         let log_in = Asked::new(table, bytes, Start::LogIn)?;
         let mid_shift = Asked::new(table, bytes, Start::MidShift)?;
         for asked in [&log_in, &mid_shift] {
@@ -881,18 +950,8 @@ impl Tally {
         let mut starts = [KEPT; CLOCKS + 2];
         let mut room = [KEPT; MOMENTS + CLOCKS + 3];
         let mut answer = [KEPT; 4];
-        let plan = match asked.start {
-            Start::LogIn => judge::plan,
-            Start::MidShift => judge::plan_mid_shift,
-        };
-        let told = plan(
-            asked.bytes,
-            k as u64,
-            &mut times,
-            &mut starts,
-            &mut room,
-            &mut answer,
-        );
+        let rooms: [&mut [u64]; 3] = [&mut times, &mut starts, &mut room];
+        let told = asked.start.plan(asked.bytes, k, rooms, &mut answer);
         match (told, answer, earliest) {
             (true, [0, 0, parts, 0], Some(earliest)) => {
                 if !kept(&room, 0) {
@@ -1006,6 +1065,7 @@ impl Tally {
             println!("{name} for 1 to {ROUNDS} rounds: {numbers}");
         };
         println!("tables {}", self.tables);
+        println!("also with a reset twice, and refused: {}", self.repeated);
         by_rounds("skipped", self.skipped);
         by_rounds("finer grids", self.finer);
         for start in STARTS {

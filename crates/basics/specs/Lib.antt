@@ -1,3 +1,5 @@
 pub mod Choice
 pub mod Numbers
 pub mod Tab
+pub mod Pigeon
+pub mod Distinct

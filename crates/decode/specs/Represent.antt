@@ -107,4 +107,4 @@ unfolding guardCount
 filled-encoded l legal =
     rw (filled-written l)
     (represents l _ legal
-    (holds-steps (legal .clocks-few) (l .steps) (holds-head (l .clocks)) (legal .entries) (omega arith) (omega arith)))
+    (holds-steps (legal .clocks-few) (l .steps) (holds-head (l .clocks)) (λ s m. legal .each s m .entries) (omega arith) (omega arith)))

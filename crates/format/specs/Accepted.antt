@@ -1,6 +1,6 @@
 -- Exactly the encodings of tables within the limits are accepted.
 use mathlib.Core.Path.{_≡_, refl, sym, _∙_, ap, subst}
-use mathlib.Core.List.{List, [], _∷_, List·Memᴰ, List·Memᴰ·not-nil}
+use mathlib.Core.List.{List, [], _∷_, List·Memᴰ}
 use mathlib.Core.List.List·Memᴰ.{List·Memᴰ·head}
 use Prim.Native.Nat.{ℕ, suc, _≤_}
 use native.Mathlib.Omega.{arith}
@@ -13,11 +13,12 @@ use Rattle.wire.specs.Reading.{byte, judgeOf, check, start, readOf}
 use Rattle.wire.specs.Laws.{onward, read-short, counted-short}
 use Rattle.wire.specs.Listing.{Listing, stepsIn, listing, guardsOf}
 use Rattle.format.specs.Encode.{encode, guardCount, Legal}
+use Rattle.format.specs.Longest.{longest}
 use Rattle.format.specs.Shapes.{headTally, check-judged, refused-counted}
 use Rattle.wire.specs.Records.{Bytes}
 use Rattle.format.specs.Located.{Located, bytesIn, bytes-in, located}
 use Rattle.format.specs.Judged.{Told, is-refused, is-head, is-entry, is-finish, is-end, judged}
-use Rattle.format.specs.Ending.{before, Ends, ends}
+use Rattle.format.specs.Ending.{before, Ends, kept-none, ends}
 
 -- Bytes write a table down: it is within the limits, they are its encoding, and the counts are its own.
 pub record Written (l : Listing) (bytes : List ℕ) (n L g : ℕ) : Type 0 where
@@ -28,16 +29,16 @@ pub record Written (l : Listing) (bytes : List ℕ) (n L g : ℕ) : Type 0 where
   pub guards : g ≡ guardCount (l .steps)
 
 -- the head, and then the rest
-written-judged : (bytes : List ℕ) → length bytes ≤ 4096 → (r : Record) (rs : List Record) → r .place ≡ 0
+written-judged : (bytes : List ℕ) (r : Record) (rs : List Record) → r .place ≡ 0
     → bytesIn (r ∷ rs) ≡ bytes → ((x : Record) → List·Memᴰ x rs → Located 1 x) → (n L g : ℕ)
     → {v : Verdict} → Told start r v → onward (length bytes) start rs v ≡ read.Counted n L g
     → Written (record { clocks = byte r 0; steps = stepsIn [] (r ∷ rs) }) bytes n L g
 unfolding bytesIn stepsIn encode before guardsOf
-written-judged bytes short r rs first b f n L g (is-refused _) q = refused-counted q
-written-judged bytes short r rs first b f n L g (is-entry e p shape h room) q = absurd (omega arith)
-written-judged bytes short r rs first b f n L g (is-finish p shape h) q = absurd (omega arith)
-written-judged bytes short r rs first b f n L g (is-end p shape some none) q = absurd (omega arith)
-written-judged bytes short r rs first b f n L g (is-head m _ shape low high) q =
+written-judged bytes r rs first b f n L g (is-refused _) q = refused-counted q
+written-judged bytes r rs first b f n L g (is-entry e p shape h new room) q = absurd (omega arith)
+written-judged bytes r rs first b f n L g (is-finish p shape h) q = absurd (omega arith)
+written-judged bytes r rs first b f n L g (is-end p shape some none) q = absurd (omega arith)
+written-judged bytes r rs first b f n L g (is-head m _ shape low high) q =
     subst (λ x. Written (record { clocks = byte x 0; steps = stepsIn [] (x ∷ rs) }) bytes n L g) (sym shape)
     (record {
       legal = record {
@@ -46,8 +47,7 @@ written-judged bytes short r rs first b f n L g (is-head m _ shape low high) q =
         steps-some = omega (arith, w .steps, w .some);
         steps-few = omega (arith, w .steps, w .few);
         guards-few = omega (arith, w .guards, w .room);
-        entries = w .entries;
-        short = subst (λ bs. length bs ≤ 4096) (sym whole) short;
+        each = w .entries;
       };
       written = whole;
       clocks = w .clocks;
@@ -57,26 +57,19 @@ written-judged bytes short r rs first b f n L g (is-head m _ shape low high) q =
   where
     w : Ends (headTally m) [] (bytesIn rs) (stepsIn [] rs) n L g
     w =
-        ends (length bytes) n L g rs f (headTally m) []
-        (record {
-          few = omega arith;
-          room = omega arith;
-          none = λ _. refl;
-          legal = λ e o. absurd (List·Memᴰ·not-nil o);
-        })
-        q
+        ends (length bytes) n L g rs f (headTally m) [] (kept-none (headTally m) (omega arith) (omega arith)) q
 
     whole : encode (record { clocks = m; steps = stepsIn [] rs }) ≡ bytes
     whole = ap (λ bs. 1 ∷ m ∷ bs) (sym (w .written)) ∙ ap (λ x. bytesIn (x ∷ rs)) (sym shape) ∙ b
 
-written-checked : (bytes : List ℕ) → Bytes bytes → length bytes ≤ 4096 → (n L g : ℕ)
+written-checked : (bytes : List ℕ) → Bytes bytes → (n L g : ℕ)
     → check (length bytes) start (records bytes) ≡ read.Counted n L g → Written (listing bytes) bytes n L g
 unfolding check recordsFrom listing
-written-checked [] h short n L g e = refused-counted e
-written-checked (k ∷ rest) h short n L g e =
+written-checked [] h n L g e = refused-counted e
+written-checked (k ∷ rest) h n L g e =
     let r = recordAt 0 k rest in
     let rs = recordsFrom (bodySize k) 1 rest in
-    written-judged (k ∷ rest) short r rs refl (bytes-in 0 0 (k ∷ rest)) (located (bodySize k) 1 rest (λ i. h (suc i))) n L g
+    written-judged (k ∷ rest) r rs refl (bytes-in 0 0 (k ∷ rest)) (located (bodySize k) 1 rest (λ i. h (suc i))) n L g
     (judged start r (located 0 0 (k ∷ rest) h r (List·Memᴰ·head refl)) (omega arith))
     (sym (check-judged (length (k ∷ rest)) start r rs (judgeOf start r) refl) ∙ e)
 
@@ -86,4 +79,10 @@ pub accepted-written : (bytes : List ℕ) → Bytes bytes → (n L g : ℕ) → 
     → Written (listing bytes) bytes n L g
 accepted-written bytes h n L g e =
     let short = counted-short bytes n L g e in
-    written-checked bytes h short n L g (sym (read-short bytes short) ∙ e)
+    written-checked bytes h n L g (sym (read-short bytes short) ∙ e)
+
+-- So what is accepted has at most 531 bytes.
+pub accepted-longest : (bytes : List ℕ) → Bytes bytes → (n L g : ℕ) → readOf bytes ≡ read.Counted n L g → length bytes ≤ 531
+accepted-longest bytes h n L g e =
+    let w = accepted-written bytes h n L g e in
+    subst (λ bs. length bs ≤ 531) (w .written) (longest (listing bytes) (w .legal))

@@ -79,8 +79,7 @@ pub reach-record : (bytes : List ℕ) (f : Refusal) (t : Tally) → judgeOf t (r
     → reach bytes f ≡ f .place + 1 + cond b (bodySize (getD bytes (f .place) 0)) 0
 reach-record bytes f t j b s =
     let r = recordOf bytes (f .place) in
-    let n = refused-number r (row-is r t j) in
-    let no-tail = ne-eqb (numberOf (f .fault)) 10 (λ e. omega arith) in
+    let no-tail = ne-eqb (numberOf (f .fault)) 10 (refused-number r (row-is r t j)) in
     λ i. f .place + 1 + cond (no-tail i) 0 (cond (s i) (bodySize (getD bytes (f .place) 0)) 0)
 
 module _ (bytes bytes′ : List ℕ) (f : Refusal) where

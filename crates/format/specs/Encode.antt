@@ -3,9 +3,10 @@ use mathlib.Core.List.{List, [], _∷_, _++_}
 use Prim.Native.Nat.{ℕ, _+_, _/_, _%_, _≤_}
 use mathlib.Core.List.{List·Memᴰ}
 use lib.ListN.{length}
+use Rattle.basics.specs.Distinct.{Distinct}
 use Rattle.table.specs.declared.Relation.{Relation}
 use Rattle.table.specs.declared.Relation.the-variants.{Under, AtMost, Exactly, AtLeast, Over}
-use Rattle.wire.specs.Listing.{Entry, guard, reset, Listing, guardsOf}
+use Rattle.wire.specs.Listing.{Entry, guard, reset, Listing, guardsOf, resetsOf}
 
 abbrev pub relationCode : Relation → ℕ
 relationCode Under = 0
@@ -43,6 +44,14 @@ abbrev pub LegalEntry : ℕ → Entry → Type 0
 LegalEntry n (guard g) = (1 ≤ g .clock) × (g .clock ≤ n) × (g .constant ≤ 4000)
 LegalEntry n (reset j) = (1 ≤ j) × (j ≤ n)
 
+-- a step that it may have: of such entries, and no clock is reset twice
+pub record LegalStep (n : ℕ) (s : List Entry) : Type 0 where
+  pub entries : (e : Entry) → List·Memᴰ e s → LegalEntry n e
+  pub once : Distinct (resetsOf s)
+
+abbrev pub LegalSteps : ℕ → List (List Entry) → Type 0
+LegalSteps n ss = (s : List Entry) → List·Memᴰ s ss → LegalStep n s
+
 -- a table within 01's limits
 pub record Legal (l : Listing) : Type 0 where
   pub clocks-some : 1 ≤ l .clocks
@@ -50,5 +59,4 @@ pub record Legal (l : Listing) : Type 0 where
   pub steps-some : 1 ≤ length (l .steps)
   pub steps-few : length (l .steps) ≤ 16
   pub guards-few : guardCount (l .steps) ≤ 64
-  pub entries : (s : List Entry) → List·Memᴰ s (l .steps) → (e : Entry) → List·Memᴰ e s → LegalEntry (l .clocks) e
-  pub short : length (encode l) ≤ 4096
+  pub each : LegalSteps (l .clocks) (l .steps)

@@ -1,13 +1,14 @@
 -- Records after the head that are accepted write the rest of the steps down.
 use mathlib.Core.Path.{_≡_, refl, sym, _∙_, ap, subst, subst₂, subst₃}
 use mathlib.Core.Logic.{⊎-elim}
-use mathlib.Core.Bool.{false}
+use mathlib.Core.Bool.{true, false}
 use mathlib.Core.List.{
   List,
   [],
   _∷_,
   _++_,
   append-assoc,
+  append-nil,
   List·Memᴰ,
   List·Memᴰ·cases-cons,
   List·Memᴰ·append-cases,
@@ -17,22 +18,25 @@ use mathlib.Core.List.{
 use mathlib.Core.List.List·Memᴰ.{List·Memᴰ·head, List·Memᴰ·tail}
 use Prim.Native.Nat.{ℕ, _+_, _≤_, _<_}
 use native.Mathlib.Omega.{arith}
-use lib.ListN.{length}
+use lib.ListN.{length, getD}
+use Rattle.basics.specs.Distinct.{Distinct, Each, each-last, distinct-last}
 use Rattle.table.specs.declared.Read.the-variants as read
 use Rattle.records.specs.declared.Tally.{Tally}
 use Rattle.records.specs.declared.Verdict.{Verdict}
+use Rattle.records.specs.Rules.{isFree, marked}
+use Rattle.records.specs.Marks.{marked-same, marked-keeps, marked-some}
 use Rattle.wire.specs.Records.{Record}
 use Rattle.wire.specs.Reading.{judgeOf, tail, check}
 use Rattle.wire.specs.Laws.{onward}
-use Rattle.wire.specs.Listing.{Entry, guard, reset, stepsIn, guardsOf}
-use Rattle.format.specs.Encode.{entryBytes, stepBytes, stepsBytes, guardCount, LegalEntry}
+use Rattle.wire.specs.Listing.{Entry, guard, reset, stepsIn, guardsOf, resetsOf}
+use Rattle.format.specs.Encode.{entryBytes, stepBytes, stepsBytes, guardCount, LegalEntry, LegalStep, LegalSteps}
 use Rattle.format.specs.Shapes.{
   entryAt,
   weight,
+  digitOf,
+  fresh,
   entered,
   stepped,
-  LegalStep,
-  LegalSteps,
   check-judged,
   steps-entry,
   guards-more,
@@ -58,12 +62,29 @@ pub record Ends (t : Tally) (begun : List Entry) (bytes : List ℕ) (ss : List (
   pub room : g ≤ 64
   pub entries : LegalSteps (t .clocks) ss
 
+-- no clock that entries reset is free
+abbrev Known : ℕ → List Entry → Type 0
+Known m es = Each (λ j. isFree m j ≡ false) (resetsOf es)
+
 -- what a tally keeps to, while a step has begun with some entries
 pub record Kept (t : Tally) (begun : List Entry) : Type 0 where
   pub few : t .steps ≤ 16
   pub room : t .guards ≤ 64
-  pub none : t .pending ≡ false → begun ≡ []
+  pub none : t .pending ≡ 0 → begun ≡ []
   pub legal : LegalStep (t .clocks) begun
+  pub known : Known (t .pending) begun
+
+-- before the first entry
+pub kept-none : (t : Tally) → t .steps ≤ 16 → t .guards ≤ 64 → Kept t []
+unfolding resetsOf
+kept-none t few room =
+    record {
+      few = few;
+      room = room;
+      none = λ _. refl;
+      legal = record { entries = λ e m. absurd (List·Memᴰ·not-nil m); once = λ i j l b. absurd (omega arith) };
+      known = λ i l. absurd (omega arith);
+    }
 
 before-more : (es : List Entry) (e : Entry) (bs : List ℕ) → before (es ++ (e ∷ [])) bs ≡ before es (entryBytes e ++ bs)
 unfolding before
@@ -81,22 +102,51 @@ unfolding guardsOf
 guards-last [] e = omega (arith, guards-more e [])
 guards-last (f ∷ es) e = omega (arith, guards-more f (es ++ (e ∷ [])), guards-more f es, guards-last es e)
 
+resets-last : (es : List Entry) (e : Entry) → resetsOf (es ++ (e ∷ [])) ≡ resetsOf es ++ resetsOf (e ∷ [])
+unfolding resetsOf
+resets-last [] e = refl
+resets-last (guard g ∷ es) e = resets-last es e
+resets-last (reset j ∷ es) e = ap (λ js. j ∷ js) (resets-last es e)
+
 bytes-entry : (at : ℕ) (e : Entry) (rs : List Record) → bytesIn (entryAt at e ∷ rs) ≡ entryBytes e ++ bytesIn rs
 unfolding bytesIn
 bytes-entry at (guard g) rs = refl
 bytes-entry at (reset j) rs = refl
 
 module _ {t : Tally} {begun : List Entry} (k : Kept t begun) where
-  -- an entry goes on with the step
-  kept-entry : (e : Entry) → LegalEntry (t .clocks) e → t .guards + weight e ≤ 64 → Kept (entered t e) (begun ++ (e ∷ []))
-  kept-entry e h room =
+  -- an entry goes on with the step: what it resets was free, and is not from there on
+  once-entry : (e : Entry) → fresh (t .pending) e ≡ true → Distinct (resetsOf (begun ++ (e ∷ [])))
+  unfolding resetsOf
+  once-entry (guard g) new = rw (resets-last begun (guard g), append-nil) (k .legal .once)
+  once-entry (reset j) new =
+      rw (resets-last begun (reset j))
+      (distinct-last (resetsOf begun) j (k .legal .once)
+      (λ i l e. false-true (sym (k .known i l) ∙ ap (isFree (t .pending)) e ∙ new)))
+
+  known-entry : (e : Entry) → Known (marked (t .pending) (digitOf e)) (begun ++ (e ∷ []))
+  unfolding resetsOf
+  known-entry (guard g) =
+      rw (resets-last begun (guard g), append-nil)
+      (λ i l. marked-keeps (t .pending) (getD (resetsOf begun) i 0) 0 (k .known i l))
+  known-entry (reset j) =
+      rw (resets-last begun (reset j))
+      (each-last (λ i. isFree (marked (t .pending) j) i ≡ false) (resetsOf begun) j
+      (λ i l. marked-keeps (t .pending) (getD (resetsOf begun) i 0) j (k .known i l)) (marked-same (t .pending) j))
+
+  kept-entry : (e : Entry) → LegalEntry (t .clocks) e → fresh (t .pending) e ≡ true → t .guards + weight e ≤ 64
+      → Kept (entered t e) (begun ++ (e ∷ []))
+  kept-entry e h new room =
       record {
         few = k .few;
         room = room;
-        none = λ p. false-true (sym p);
-        legal = λ f m. ⊎-elim (k .legal f)
-            (λ o. subst (LegalEntry (t .clocks)) (sym (List·Memᴰ·eq-of-singleton o)) h)
-            (List·Memᴰ·append-cases begun m);
+        none = λ p. absurd (marked-some (t .pending) (digitOf e) p);
+        legal = record {
+          entries = λ f m. ⊎-elim (k .legal .entries f)
+              (λ o. subst (LegalEntry (t .clocks)) (sym (List·Memᴰ·eq-of-singleton o)) h)
+              (List·Memᴰ·append-cases begun m);
+          once = once-entry e new;
+        };
+        known = known-entry e;
       }
 
   ends-entry : {bytes : List ℕ} {ss : List (List Entry)} {n L g : ℕ} (e : Entry)
@@ -115,13 +165,7 @@ module _ {t : Tally} {begun : List Entry} (k : Kept t begun) where
 
   -- a finished step is one of the steps
   kept-finish : t .steps < 16 → Kept (stepped t (t .guards)) []
-  kept-finish h =
-      record {
-        few = omega arith;
-        room = k .room;
-        none = λ _. refl;
-        legal = λ e m. absurd (List·Memᴰ·not-nil m);
-      }
+  kept-finish h = kept-none (stepped t (t .guards)) (omega arith) (k .room)
 
   ends-finish : {bytes : List ℕ} {ss : List (List Entry)} {n L g : ℕ}
       → Ends (stepped t (t .guards)) [] bytes ss n L g → Ends t begun (4 ∷ bytes) (begun ∷ ss) n L g
@@ -140,7 +184,7 @@ module _ {t : Tally} {begun : List Entry} (k : Kept t begun) where
       }
 
   -- the end has no byte after it, and no step begun before it
-  ends-end : 1 ≤ t .steps → t .pending ≡ false → Ends t begun (5 ∷ []) [] (t .clocks) (t .steps) (t .guards)
+  ends-end : 1 ≤ t .steps → t .pending ≡ 0 → Ends t begun (5 ∷ []) [] (t .clocks) (t .steps) (t .guards)
   unfolding before stepsBytes guardCount guardsOf
   ends-end h p =
       record {
@@ -154,7 +198,7 @@ module _ {t : Tally} {begun : List Entry} (k : Kept t begun) where
         entries = λ s m. absurd (List·Memᴰ·not-nil m);
       }
 
-  ends-last : (rs : List Record) → 1 ≤ t .steps → t .pending ≡ false → {n L g : ℕ}
+  ends-last : (rs : List Record) → 1 ≤ t .steps → t .pending ≡ 0 → {n L g : ℕ}
       → tail t rs ≡ read.Counted n L g → Ends t begun (5 ∷ bytesIn rs) [] n L g
   unfolding bytesIn
   ends-last [] h p {n} {L} {g} e =
@@ -175,12 +219,12 @@ module _ (len n L g : ℕ) where
   unfolding bytesIn stepsIn
   ends-judged t begun r rs k later rest (is-refused f) q = refused-counted q
   ends-judged t begun r rs k later rest (is-head m first shape low high) q = absurd (omega arith)
-  ends-judged t begun r rs k later rest (is-entry e _ shape h room) q =
+  ends-judged t begun r rs k later rest (is-entry e _ shape h new room) q =
       subst (λ x. Ended t begun (x ∷ rs)) (sym shape)
       (subst₂ (λ bs ss. Ends t begun bs ss n L g)
       (sym (bytes-entry (r .place) e rs))
       (sym (steps-entry begun (r .place) e rs))
-      (ends-entry k e (rest (entered t e) (begun ++ (e ∷ [])) (kept-entry k e h room) q)))
+      (ends-entry k e (rest (entered t e) (begun ++ (e ∷ [])) (kept-entry k e h new room) q)))
   ends-judged t begun r rs k later rest (is-finish _ shape h) q =
       subst (λ x. Ended t begun (x ∷ rs)) (sym shape)
       (ends-finish k (rest (stepped t (t .guards)) [] (kept-finish k h) q))

@@ -34,7 +34,7 @@ module _ (l : Listing) (legal : Legal l) where
   unfolding stepOf
   legal-guard s m g i =
       let (es, at, e) = Memᴰ·of-map stepOf (l .steps) m in
-      legal .entries es at (guard g) (guard-member es (subst (λ x. List·Memᴰ g (x .guards)) (sym e) i))
+      legal .each es at .entries (guard g) (guard-member es (subst (λ x. List·Memᴰ g (x .guards)) (sym e) i))
 
   pub legal-clocks : (s : Step) → List·Memᴰ s (cycle l) → (g : Guard) → List·Memᴰ g (s .guards)
       → (0 < g .clock) × (g .clock ≤ l .clocks)
@@ -45,7 +45,7 @@ module _ (l : Listing) (legal : Legal l) where
   legal-resets s m j h k =
       let (es, at, e) = Memᴰ·of-map stepOf (l .steps) m in
       subst (λ x. getD (x .flags) j false ≡ false) e
-      (flagged-other (l .clocks) j h es (legal .entries es at) (replicate 7 false) ∙ getD-replicate 7 j false false k)
+      (flagged-other (l .clocks) j h es (legal .each es at .entries) (replicate 7 false) ∙ getD-replicate 7 j false false k)
 
   pub legal-fair : Fairs (cycle l)
   legal-fair s m =

@@ -6,9 +6,10 @@ use mathlib.Core.Bool.{Bool, true, false}
 use mathlib.Core.List.{List, _++_, List·Memᴰ, List·Memᴰ·head, List·Memᴰ·tail}
 use Prim.Native.Nat.{ℕ, _≤_, _<_}
 use native.Mathlib.Omega.{arith}
+use native.Mathlib.Decide.{decLe}
 use lib.ListN.{length, getD, take, length-append}
 use lib.Seq.{take-append-le}
-use Rattle.table.specs.Refusal.{numberOf}
+use Rattle.table.specs.Refusal.{numberOf, ofTable}
 use Rattle.table.specs.declared.Fault.the-variants as fault
 use Rattle.table.specs.declared.Refusal.{Refusal}
 use Rattle.table.specs.declared.Read.the-variants as read
@@ -17,8 +18,9 @@ use Rattle.records.specs.declared.Verdict.the-variants.{Refused}
 use Rattle.records.specs.Rules.{bodySize}
 use Rattle.wire.specs.Records.{Record, recordsAt, records, records-next}
 use Rattle.wire.specs.Reading.{judgeOf, readOf}
+use Rattle.wire.specs.Laws.{read-long}
 use Rattle.format.specs.Reach.{recordOf, after, stands, reach}
-use Rattle.format.specs.Rows.{row-is, refused-cut, refused-uncut}
+use Rattle.format.specs.Rows.{row-is, refused-of-table, refused-cut, refused-uncut}
 use Rattle.format.specs.Coming.{Arises, in-record, after-end, run-out, found, whole-within, cut-past, comes-among}
 use Rattle.format.specs.Alike.{reach-record, found-same, found-before}
 
@@ -76,6 +78,25 @@ cut-place bytes short p r = go (found bytes short _ r)
         inr (h, cut-past bytes p h (refused-cut x (row-is x t j) refl))
     go (after-end c h j more is) = absurd (omega (arith, ap (λ x. numberOf (x .fault)) is))
     go (run-out c is) = inl (ap (λ x. x .place) is)
+
+-- The number of a refusal is one of a table's faults, also where 1 is given.
+pub fault-number : (bytes : List ℕ) (f : Refusal) → readOf bytes ≡ read.Refused f → ofTable (numberOf (f .fault)) ≡ true
+fault-number bytes f r = go (decLe (length bytes) 4096)
+  where
+    is : (e : Refusal) → f ≡ e → ofTable (numberOf (e .fault)) ≡ true → ofTable (numberOf (f .fault)) ≡ true
+    is e same h = subst (λ x. ofTable (numberOf (x .fault)) ≡ true) (sym same) h
+
+    arises : Arises bytes f → ofTable (numberOf (f .fault)) ≡ true
+    arises (in-record {t} c h j) = let x = recordOf bytes (f .place) in refused-of-table x (row-is x t j)
+    arises (after-end c h j more e) = is _ e refl
+    arises (run-out c e) = is _ e refl
+
+    long : readOf bytes ≡ read.Refused (record { fault = fault.Length; place = 4096 }) → ofTable (numberOf (f .fault)) ≡ true
+    long l = let same : f ≡ record { fault = fault.Length; place = 4096 } = cc in is _ same refl
+
+    go : Dec (length bytes ≤ 4096) → ofTable (numberOf (f .fault)) ≡ true
+    go (yes h) = arises (found bytes h f r)
+    go (no h) = long (read-long bytes (omega arith))
 
 -- A refusal at a byte is at the kind byte of a record; for a tail, of the one that begins after the end.
 pub fault-place : (bytes : List ℕ) → length bytes ≤ 4096 → (f : Refusal) → readOf bytes ≡ read.Refused f

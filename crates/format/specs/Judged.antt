@@ -7,13 +7,13 @@ use native.Mathlib.Nat.{add-zero}
 use native.Mathlib.Omega.{arith}
 use lib.Dec.{eqb, ltb, leb}
 use lib.ListN.{length, getD}
-use borrow.Author.Tests.{ltb-true, leb-true, eqb-true, eqb-false, not-true}
+use borrow.Author.Tests.{ltb-true, leb-true, eqb-true, eqb-false}
 use Rattle.table.specs.declared.Fault.{Fault}
 use Rattle.table.specs.declared.Refusal.{Refusal}
 use Rattle.records.specs.declared.Tally.{Tally}
 use Rattle.records.specs.declared.Verdict.{Verdict}
 use Rattle.records.specs.declared.Verdict.the-variants.{Refused, Next, Last}
-use Rattle.records.specs.Rules.{bodySize, need, within, headed, guarded, cleared, finished, ended, relationOf}
+use Rattle.records.specs.Rules.{bodySize, need, within, isFree, marked, headed, guarded, cleared, finished, ended, relationOf}
 use Rattle.wire.specs.Records.{Record}
 use Rattle.wire.specs.Reading.{agree, byte, constantOf, wholeOf, judgeOf}
 use Rattle.wire.specs.Listing.{Entry, guard, reset, guardIn}
@@ -26,10 +26,12 @@ use Rattle.format.specs.Shapes.{
   finishAt,
   endAt,
   weight,
+  fresh,
   headTally,
   entered,
   stepped,
   false-true,
+  both,
 }
 
 -- what a record was, by the verdict on it: any that is refused; the head; an entry; a finished step; the end
@@ -37,15 +39,11 @@ pub data Told (t : Tally) (r : Record) : Verdict → Type 0 where
   is-refused : (f : Refusal) → Told t r (Refused f)
   is-head : (n : ℕ) → r .place ≡ 0 → r ≡ headWith n → 1 ≤ n → n ≤ 6 → Told t r (Next (headTally n))
   is-entry : (e : Entry) → 0 < r .place → r ≡ entryAt (r .place) e → LegalEntry (t .clocks) e
-      → t .guards + weight e ≤ 64 → Told t r (Next (entered t e))
+      → fresh (t .pending) e ≡ true → t .guards + weight e ≤ 64 → Told t r (Next (entered t e))
   is-finish : 0 < r .place → r ≡ finishAt (r .place) → t .steps < 16 → Told t r (Next (stepped t (t .guards)))
-  is-end : 0 < r .place → r ≡ endAt (r .place) → 1 ≤ t .steps → t .pending ≡ false → Told t r Last
+  is-end : 0 < r .place → r ≡ endAt (r .place) → 1 ≤ t .steps → t .pending ≡ 0 → Told t r Last
 
 -- what a test that holds tells
-both : (a b : Bool) → (a && b) ≡ true → (a ≡ true) × (b ≡ true)
-both true b e = (refl, e)
-both false b e = false-true e
-
 within-true : (low x high : ℕ) → within low x high ≡ true → (low ≤ x) × (x ≤ high)
 within-true low x high e =
     let h = both (leb low x) (leb x high) e in
@@ -123,17 +121,20 @@ module _ (t : Tally) (r : Record) where
         (shaped 2 k
         ∙ ap (λ body. record { place = r .place; kind = 2; body = body })
         (λ i. byte r 0 ∷ sym code i ∷ sym low i ∷ sym high i ∷ []))
-        (h .0, h .1, leb-true (constantOf r) 4000 d)
+        (h .0, h .1, leb-true (constantOf r) 4000 d) refl
         (omega (arith, ltb-true (t .guards) 64 a))
 
     reset-told : r .kind ≡ 3 → 0 < r .place → t .guards ≤ 64 → Told t r (cleared t (r .place) (byte r 0))
     unfolding cleared listed
     reset-told k later room =
         need-told (within 1 (byte r 0) (t .clocks)) _ _ λ e.
+        need-told (isFree (t .pending) (byte r 0)) _ _ λ a.
         let h = within-true 1 (byte r 0) (t .clocks) e in
-        subst (λ c. Told t r (Next (record { clocks = t .clocks; steps = t .steps; guards = c; pending = true })))
-        (add-zero (t .guards))
-        (is-entry (reset (byte r 0)) later (shaped 3 k) (h .0, h .1) (omega arith))
+        subst (λ c. Told t r (Next (after c))) (add-zero (t .guards))
+        (is-entry (reset (byte r 0)) later (shaped 3 k) (h .0, h .1) a (omega arith))
+      where
+        after : ℕ → Tally
+        after c = record { clocks = t .clocks; steps = t .steps; guards = c; pending = marked (t .pending) (byte r 0) }
 
     finish-told : r .kind ≡ 4 → 0 < r .place → Told t r (finished t (r .place))
     unfolding finished listed
@@ -143,9 +144,9 @@ module _ (t : Tally) (r : Record) where
     end-told : r .kind ≡ 5 → 0 < r .place → Told t r (ended t (r .place))
     unfolding ended listed
     end-told k later =
-        need-told (leb 1 (t .steps) && not (t .pending)) _ _ λ e.
-        let h = both (leb 1 (t .steps)) (not (t .pending)) e in
-        is-end later (shaped 5 k) (leb-true 1 (t .steps) (h .0)) (not-true (t .pending) (h .1))
+        need-told (leb 1 (t .steps) && eqb (t .pending) 0) _ _ λ e.
+        let h = both (leb 1 (t .steps)) (eqb (t .pending) 0) e in
+        is-end later (shaped 5 k) (leb-true 1 (t .steps) (h .0)) (eqb-true (t .pending) 0 (h .1))
 
     -- a whole record, by its kind
     whole-told : 1 ≤ r .kind → r .kind ≤ 5 → (r .kind ≡ 1 → r .place ≡ 0) → ((r .kind ≡ 1 → ⊥) → 0 < r .place)

@@ -1,5 +1,6 @@
 pub mod Encode
 pub mod Shapes
+pub mod Longest
 pub mod Encoded
 pub mod Located
 pub mod Judged

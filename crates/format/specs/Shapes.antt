@@ -1,7 +1,7 @@
 -- The records of a table as it is encoded, and the tally after each.
 use mathlib.Core.Path.{_≡_, refl}
-use mathlib.Core.Bool.{true, false}
-use mathlib.Core.List.{List, [], _∷_, _++_, List·Memᴰ}
+use mathlib.Core.Bool.{Bool, true, false, _&&_}
+use mathlib.Core.List.{List, [], _∷_, _++_}
 use Prim.Native.Nat.{ℕ, _+_, _*_, _/_, _%_}
 use native.Mathlib.Omega.{arith}
 use lib.ListN.{length}
@@ -15,9 +15,9 @@ use Rattle.records.specs.declared.Verdict.the-variants.{Refused, Next, Last}
 use Rattle.wire.specs.Records.{Record}
 use Rattle.wire.specs.Reading.{judgeOf, check}
 use Rattle.wire.specs.Laws.{onward}
-use Rattle.records.specs.Rules.{relationOf}
+use Rattle.records.specs.Rules.{relationOf, isFree, marked}
 use Rattle.wire.specs.Listing.{Entry, guard, reset, entry, contentOf, stepsIn, guardsOf}
-use Rattle.format.specs.Encode.{relationCode, LegalEntry}
+use Rattle.format.specs.Encode.{relationCode}
 
 -- the record of the head; and at a place, of an entry, of a finished step and of the end
 abbrev pub headWith : ℕ → Record
@@ -43,22 +43,30 @@ abbrev pub weight : Entry → ℕ
 weight (guard g) = 1
 weight (reset j) = 0
 
+-- the digit that an entry marks, and whether a step may have it: it does not reset the clock yet
+abbrev pub digitOf : Entry → ℕ
+digitOf (guard g) = 0
+digitOf (reset j) = j
+
+abbrev pub fresh : ℕ → Entry → Bool
+fresh m (guard g) = true
+fresh m (reset j) = isFree m j
+
 -- the tally after the head; after an entry; and after a step, with the number of guards by then
 abbrev pub headTally : ℕ → Tally
-headTally n = record { clocks = n; steps = 0; guards = 0; pending = false }
+headTally n = record { clocks = n; steps = 0; guards = 0; pending = 0 }
 
 abbrev pub entered : Tally → Entry → Tally
-entered t e = record { clocks = t .clocks; steps = t .steps; guards = t .guards + weight e; pending = true }
+entered t e =
+    record {
+      clocks = t .clocks;
+      steps = t .steps;
+      guards = t .guards + weight e;
+      pending = marked (t .pending) (digitOf e);
+    }
 
 abbrev pub stepped : Tally → ℕ → Tally
-stepped t c = record { clocks = t .clocks; steps = t .steps + 1; guards = c; pending = false }
-
--- steps that a table of n clocks may have
-abbrev pub LegalStep : ℕ → List Entry → Type 0
-LegalStep n s = (e : Entry) → List·Memᴰ e s → LegalEntry n e
-
-abbrev pub LegalSteps : ℕ → List (List Entry) → Type 0
-LegalSteps n ss = (s : List Entry) → List·Memᴰ s ss → LegalStep n s
+stepped t c = record { clocks = t .clocks; steps = t .steps + 1; guards = c; pending = 0 }
 
 -- a relation and a constant are read back from their bytes
 pub relation-back : (r : Relation) → relationOf (relationCode r) ≡ r
@@ -109,3 +117,8 @@ refused-counted e = let z : _≡_ {A = ℕ} 0 1 = cc in absurd (omega arith)
 
 pub false-true : {A : Type 0} → false ≡ true → A
 false-true e = let z : _≡_ {A = ℕ} 0 1 = cc in absurd (omega arith)
+
+-- where both tests hold, each does
+pub both : (a b : Bool) → (a && b) ≡ true → (a ≡ true) × (b ≡ true)
+both true b e = (refl, e)
+both false b e = false-true e

@@ -9,7 +9,7 @@ use native.Mathlib.Omega.{arith}
 use native.Mathlib.Decide.{decLt, decLe}
 use lib.Dec.{ltb}
 use borrow.Author.Tests.{lt-ltb, le-ltb}
-use Rattle.paths.specs.Walk.{Twice, pigeon}
+use Rattle.basics.specs.Pigeon.{Twice, pigeon}
 use Rattle.paths.specs.Constraint.{Constraint, Holds, All, Fits}
 
 -- ---- a search: one k below n with Q, or R for all of them

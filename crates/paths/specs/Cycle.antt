@@ -6,7 +6,8 @@ use Prim.Native.Nat.{ℕ, zero, suc, _+_, _*_, _-_, _≤_, _<_}
 use native.Mathlib.Nat.{suc-mul, zero-mul, mul-le-mul-right}
 use native.Mathlib.Omega.{arith}
 use lib.ListN.{length}
-use Rattle.paths.specs.Walk.{pigeon, Twice, iter, iter-add, iter-round, Among, among, Ring}
+use Rattle.basics.specs.Pigeon.{Twice, pigeon}
+use Rattle.paths.specs.Walk.{iter, iter-add, iter-round, Among, among, Ring}
 use Rattle.basics.specs.Numbers.{sum}
 use Rattle.basics.specs.Tab.{tab, length-tab, getD-tab}
 use Rattle.paths.specs.Places.{at}

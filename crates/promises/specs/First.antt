@@ -1,13 +1,13 @@
 -- The first promise: every bad table, bad number of rounds and short room is refused exactly as 01's table says; everything
 -- else is answered.
 use mathlib.Core.Path.{_≡_}
-use mathlib.Core.Bool.{Bool, cond}
+use mathlib.Core.Bool.{Bool, true, cond}
 use mathlib.Core.List.{List}
-use Prim.Native.Nat.{ℕ, _+_, _*_, _≤_, _<_}
+use Prim.Native.Nat.{ℕ, _+_, _*_, _<_}
 use lib.Dec.{leb}
 use lib.IntN.{ℤ}
 use lib.ListN.{length, getD}
-use Rattle.table.specs.Refusal.{numberOf}
+use Rattle.table.specs.Refusal.{numberOf, ofTable}
 use Rattle.table.specs.declared.Refusal.{Refusal}
 use Rattle.table.specs.declared.Read.the-variants as read
 use Rattle.runs.specs.declared.Start.{Start}
@@ -58,11 +58,11 @@ pub record AcceptedBy (bytes : List ℕ) (n L g : ℕ) : Type 0 where
       → demandsRow L k (length (demandsIn bytes v k)) (length before) ≡ 0
       → (a ≡ four 0 (length (demandsIn bytes v k)) 0 0) × (after ≡ over (cells (demandsIn bytes v k)) before)
 
--- All four questions, for every variant, refuse the bytes for the same fault, of 01's rows 1 to 10 (`readOf`), and change no room.
+-- All four questions, for every variant, refuse the bytes for the same fault, of 01's rows 1 to 10 or row 16 (`readOf`), and change no room.
 pub record RefusedBy (bytes : List ℕ) : Type 0 where
   pub fault : Refusal
   pub found : readOf bytes ≡ read.Refused fault
-  pub number : (1 ≤ numberOf (fault .fault)) × (numberOf (fault .fault) ≤ 10)
+  pub number : ofTable (numberOf (fault .fault)) ≡ true
   pub read : (a : List ℕ) → ReadSays bytes a → a ≡ refusedNumbers fault
   pub rounds : (v : Start) (a : List ℕ) → RoundsSays bytes v a → a ≡ refusedNumbers fault
   pub plan : (v : Start) (k : ℕ) (before after : Rooms) (a : List ℕ) → PlanSays bytes v k before after a

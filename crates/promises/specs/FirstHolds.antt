@@ -24,6 +24,7 @@ use Rattle.wire.specs.Listing.{Listing, listing}
 use Rattle.format.specs.Encode.{encode, Legal}
 use Rattle.format.specs.Encoded.{read-encoded}
 use Rattle.format.specs.Accepted.{accepted-written}
+use Rattle.format.specs.FirstFault.{fault-number}
 use Rattle.asking.specs.Admission.{inRange, admitOf}
 use Rattle.asking.specs.Rounds.{clocksOf, cycleOf, roundsIn, demandsIn}
 use Rattle.asking.specs.declared.Admission.{Admission}
@@ -43,7 +44,6 @@ use Rattle.answers.specs.Four.{four, readNumbers}
 use Rattle.numbers.specs.Numbers.{countNumbers, planNumbers, demandsNumbers}
 use Rattle.promises.specs.First.{row, planRow, demandsRow, Refuses, AcceptedBy, RefusedBy, First}
 use Rattle.promises.specs.Rows.{number-some, Told, fails, passes, told-test, refuses-fault, refuses-none}
-use Rattle.promises.specs.Reader.{reader-number}
 
 -- ---- rounds: a count is no refusal, since 0 rounds always run
 counted-first : (r : Count) → rounds.Allows r 0 → getD (countNumbers r) 0 0 ≡ 0
@@ -186,7 +186,7 @@ module _ (bytes : List ℕ) (f : Refusal) (e : readOf bytes ≡ read.Refused f) 
       record {
         fault = f;
         found = e;
-        number = (number-some (f .fault), reader-number bytes f e);
+        number = fault-number bytes f e;
         read = λ a s. s ∙ ap readNumbers e;
         rounds = λ v a s. s .numbers ∙ ap countNumbers (subst (λ q. rounds.Answers q bytes v (s .count)) e (s .answers));
         plan = λ v k before after a s.

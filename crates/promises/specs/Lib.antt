@@ -7,7 +7,6 @@ pub mod Third
 pub mod Entries
 -- and the promises hold
 pub mod Rows
-pub mod Reader
 pub mod FirstHolds
 pub mod Plans
 pub mod SecondHolds

@@ -8,9 +8,9 @@ use testkit::table;
 use testkit::title;
 use testkit::word;
 
-// Small tables: cut short, of wrong kinds, on clocks, with numbers at their limits, at their ends, and with two faults, of which the
-// first counts and, within a record, the order of the rows.
-const SMALL: [u8; 839] = *b"\
+// Small tables: cut short, of wrong kinds, on clocks, with numbers at their limits, at their ends, with two faults, of which the
+// first counts and, within a record, the order of the rows, and with a clock that is reset twice.
+const SMALL: [u8; 1418] = *b"\
     empty:\x00\
     lone head kind:\x01\x01\
     head only:\x02\x01\x01\
@@ -49,7 +49,23 @@ const SMALL: [u8; 839] = *b"\
     timer, relation and constant:\x09\x01\x01\x02\x02\x05\xff\xff\x04\x05\
     relation and constant:\x09\x01\x01\x02\x01\x05\xff\xff\x04\x05\
     no head first, and cut:\x01\x02\
-    reset before guard:\x0b\x01\x01\x03\x01\x02\x01\x03\x03\x00\x04\x05";
+    reset before guard:\x0b\x01\x01\x03\x01\x02\x01\x03\x03\x00\x04\x05\
+    reset twice:\x08\x01\x01\x03\x01\x03\x01\x04\x05\
+    reset twice, a guard between:\x0d\x01\x01\x03\x01\x02\x01\x01\x00\x00\x03\x01\x04\x05\
+    reset twice, another between:\x0a\x01\x02\x03\x01\x03\x02\x03\x01\x04\x05\
+    reset again in the next step:\x09\x01\x01\x03\x01\x04\x03\x01\x04\x05\
+    reset again, two steps on:\x0c\x01\x02\x03\x01\x04\x03\x02\x04\x03\x01\x04\x05\
+    reset in the next step, then twice:\x0b\x01\x01\x03\x01\x04\x03\x01\x03\x01\x04\x05\
+    six resets:\x10\x01\x06\x03\x01\x03\x02\x03\x03\x03\x04\x03\x05\x03\x06\x04\x05\
+    six resets, the first again:\x12\x01\x06\x03\x01\x03\x02\x03\x03\x03\x04\x03\x05\x03\x06\x03\x01\x04\x05\
+    six resets, the last again:\x12\x01\x06\x03\x01\x03\x02\x03\x03\x03\x04\x03\x05\x03\x06\x03\x06\x04\x05\
+    reset of clock 2 of 1, twice:\x08\x01\x01\x03\x02\x03\x02\x04\x05\
+    reset of clock 0, twice:\x08\x01\x01\x03\x00\x03\x00\x04\x05\
+    reset twice, cut:\x05\x01\x01\x03\x01\x03\
+    reset twice, then kind:\x07\x01\x01\x03\x01\x03\x01\x09\
+    reset twice, then timer:\x0a\x01\x01\x03\x01\x03\x01\x03\x02\x04\x05\
+    reset twice, and unfinished:\x07\x01\x01\x03\x01\x03\x01\x05\
+    kind, then reset twice:\x09\x01\x01\x03\x01\x09\x03\x01\x04\x05";
 
 // 01's samples among testkit's tables, as far as they differ for the reader.
 const SAMPLES: [usize; 7] = [1, 2, 6, 7, 9, 10, 11];
@@ -76,7 +92,7 @@ fn show(name: &[u8], bytes: &[u8]) {
 fn small() {
     let tape = SMALL;
     let mut case: usize = 1;
-    while case <= 39 {
+    while case <= 55 {
         show(name(&tape, case), table(&tape, case));
         case += 1;
     }
@@ -114,9 +130,22 @@ fn steps() {
     long(b"17 steps", &mut more, b"\x01\x01", b"\x04", b"\x05");
 }
 
-// A step of as many resets of a clock as fill the longest table, and a byte after it.
+// The longest table, sixteen steps with four guards and six resets each, and a reset more; a step of as many resets of a clock as
+// fill all that is read, and a byte after it.
 fn longest() {
     let head = b"\x01\x06";
+    let step =
+        b"\x02\x01\x01\xa0\x0f\x02\x02\x01\xa0\x0f\x02\x03\x01\xa0\x0f\x02\x04\x01\xa0\x0f\x03\x01\x03\x02\x03\x03\x03\x04\x03\x05\x03\x06\x04";
+    let mut full = [0u8; 531];
+    long(b"531 bytes", &mut full, head, step, b"\x05");
+    let mut over = [0u8; 533];
+    long(
+        b"531 bytes, and a reset",
+        &mut over,
+        head,
+        step,
+        b"\x03\x06\x04\x05",
+    );
     let reset = b"\x03\x06";
     let mut most = [0u8; 4096];
     long(b"4096 bytes", &mut most, head, reset, b"\x04\x05");

@@ -1,6 +1,7 @@
 -- The tests of one record, whose fields are numbers: in the order of 01's rows, from the left, and the first fault counts.
-use mathlib.Core.Bool.{Bool, true, false, cond, not, _&&_}
-use Prim.Native.Nat.{ℕ, _+_}
+use mathlib.Core.Bool.{Bool, true, false, cond, _&&_}
+use Prim.Native.Nat.{ℕ, _+_, _/_, _%_, _^_}
+use lib.Bits.{bitOr}
 use lib.Dec.{eqb, ltb, leb}
 use Rattle.table.specs.declared.Fault.{Fault}
 use Rattle.table.specs.declared.Fault.the-variants as fault
@@ -27,11 +28,19 @@ need false f place then = Refused (record { fault = f; place = place })
 abbrev pub within : ℕ → ℕ → ℕ → Bool
 within low x high = leb low x && leb x high
 
+-- What the step under way has so far, as a number of 32 binary digits: digit 0 is 1 where it has a guard, digit j where it resets
+-- clock j. Whether digit j is 0, and the number with digit j made 1:
+unfoldable pub isFree : ℕ → ℕ → Bool
+isFree pending j = eqb (pending / 2 ^ (j % 32) % 2) 0
+
+unfoldable pub marked : ℕ → ℕ → ℕ
+marked pending j = bitOr pending (2 ^ (j % 32))
+
 -- a head at a place, with a number of clocks
 unfoldable pub headed : ℕ → ℕ → Verdict
 headed place n =
     need (within 1 n 6) fault.Head place
-    (Next (record { clocks = n; steps = 0; guards = 0; pending = false }))
+    (Next (record { clocks = n; steps = 0; guards = 0; pending = 0 }))
 
 -- a guard: clock, relation, constant
 unfoldable pub guarded : Tally → ℕ → ℕ → ℕ → ℕ → Verdict
@@ -40,20 +49,33 @@ guarded t place clock relation constant =
     (need (within 1 clock (t .clocks)) fault.Timer place
     (need (leb relation 4) fault.Relation place
     (need (leb constant 4000) fault.Constant place
-    (Next (record { clocks = t .clocks; steps = t .steps; guards = t .guards + 1; pending = true })))))
+    (Next
+    (record {
+      clocks = t .clocks;
+      steps = t .steps;
+      guards = t .guards + 1;
+      pending = marked (t .pending) 0;
+    })))))
 
--- a reset of a clock
+-- a reset of a clock that the step does not reset yet
 unfoldable pub cleared : Tally → ℕ → ℕ → Verdict
 cleared t place clock =
     need (within 1 clock (t .clocks)) fault.Timer place
-    (Next (record { clocks = t .clocks; steps = t .steps; guards = t .guards; pending = true }))
+    (need (isFree (t .pending) clock) fault.Twice place
+    (Next
+    (record {
+      clocks = t .clocks;
+      steps = t .steps;
+      guards = t .guards;
+      pending = marked (t .pending) clock;
+    })))
 
--- a step is finished
+-- a step is finished, and the next one has nothing yet
 unfoldable pub finished : Tally → ℕ → Verdict
 finished t place =
     need (ltb (t .steps) 16) fault.Steps place
-    (Next (record { clocks = t .clocks; steps = t .steps + 1; guards = t .guards; pending = false }))
+    (Next (record { clocks = t .clocks; steps = t .steps + 1; guards = t .guards; pending = 0 }))
 
 -- the end
 unfoldable pub ended : Tally → ℕ → Verdict
-ended t place = need (leb 1 (t .steps) && not (t .pending)) fault.Steps place Last
+ended t place = need (leb 1 (t .steps) && eqb (t .pending) 0) fault.Steps place Last

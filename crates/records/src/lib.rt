@@ -3,14 +3,15 @@ use table::Fault;
 use table::Refusal;
 ghost use mathlib.Core.Path.{_≡_};
 ghost use Prim.Native.Nat.{_≤_};
-ghost use Rattle.records.specs.Rules.{bodySize, within, headed, guarded, cleared, finished, ended};
+ghost use Rattle.records.specs.Rules.{bodySize, within, isFree, marked, headed, guarded, cleared, finished, ended};
 
-// What the tests of a record ask of the records before it.
+// What the tests of a record ask of the records before it: the clocks, the finished steps and all guards; and what the step under
+// way has so far, as binary digits, 0 for a guard and j for a reset of clock j.
 pub struct Tally {
     pub clocks: usize,
     pub steps: usize,
     pub guards: usize,
-    pub pending: bool,
+    pub pending: u32,
 }
 
 // What is found of a record: a fault; the tally after it; or that it is the end.
@@ -53,6 +54,20 @@ pub fn refuse(fault: Fault, place: usize) -> Verdict
     Verdict::Refused(Refusal { fault, place })
 }
 
+// Whether a step does not reset a clock yet.
+fn is_free(pending: u32, clock: usize) -> bool
+    ensures { λ r. ⌜ r ≡ isFree pending clock ⌝ }
+{
+    (pending >> (clock % 32)) % 2 == 0
+}
+
+// What a step has, with a digit more.
+fn mark(pending: u32, digit: usize) -> u32
+    ensures { λ r. ⌜ r ≡ marked pending digit ⌝ }
+{
+    pending | (1 << (digit % 32))
+}
+
 // A head, with a number of clocks.
 pub fn take_head(place: usize, n: usize) -> Verdict
     ensures { λ r. ⌜ r ≡ headed place n ⌝ }
@@ -64,7 +79,7 @@ pub fn take_head(place: usize, n: usize) -> Verdict
         clocks: n,
         steps: 0,
         guards: 0,
-        pending: false,
+        pending: 0,
     })
 }
 
@@ -90,7 +105,7 @@ pub fn take_guard(t: Tally, place: usize, clock: usize, relation: usize, constan
         clocks: t.clocks,
         steps: t.steps,
         guards: t.guards + 1,
-        pending: true,
+        pending: mark(t.pending, 0),
     })
 }
 
@@ -98,13 +113,18 @@ pub fn take_guard(t: Tally, place: usize, clock: usize, relation: usize, constan
 pub fn take_reset(t: Tally, place: usize, clock: usize) -> Verdict
     ensures { λ r. ⌜ r ≡ cleared t place clock ⌝ }
 {
-    if between(1, clock, t.clocks) {
-        return Verdict::Next(Tally {
-            clocks: t.clocks,
-            steps: t.steps,
-            guards: t.guards,
-            pending: true,
-        });
+    let exists = between(1, clock, t.clocks);
+    let free = is_free(t.pending, clock);
+    if exists {
+        if free {
+            return Verdict::Next(Tally {
+                clocks: t.clocks,
+                steps: t.steps,
+                guards: t.guards,
+                pending: mark(t.pending, clock),
+            });
+        }
+        return refuse(Fault::Twice, place);
     }
     refuse(Fault::Timer, place)
 }
@@ -120,7 +140,7 @@ pub fn take_step(t: Tally, place: usize) -> Verdict
         clocks: t.clocks,
         steps: t.steps + 1,
         guards: t.guards,
-        pending: false,
+        pending: 0, // the next step has nothing yet
     })
 }
 
@@ -131,7 +151,7 @@ pub fn take_end(t: Tally, place: usize) -> Verdict
     if t.steps < 1 {
         return refuse(Fault::Steps, place);
     }
-    if t.pending {
+    if t.pending != 0 {
         return refuse(Fault::Steps, place);
     }
     Verdict::Last

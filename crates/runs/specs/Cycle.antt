@@ -6,8 +6,9 @@ use Prim.Native.Nat.{ℕ, zero, suc, _+_, _≤_, _<_}
 use native.Mathlib.Omega.{arith}
 use lib.ListN.{length, getD}
 use Rattle.runs.specs.declared.Demand.{Demand}
-use Rattle.runs.specs.Loop.{Link, Tightest, Along, last, then, Distinct, total, Loop}
+use Rattle.runs.specs.Loop.{Link, Tightest, Along, last, then, total, Loop}
 use Rattle.basics.specs.Numbers.{sum, sum-first}
+use Rattle.basics.specs.Distinct.{Distinct}
 use Rattle.runs.specs.Tools.{Every, every-cons}
 use Rattle.runs.specs.Parts.{gain, loss, parts-negative, tight-parts}
 use Rattle.runs.specs.Tighten.{tightest}

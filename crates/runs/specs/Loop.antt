@@ -1,10 +1,11 @@
 -- What contradicts a run: a negative cycle of difference constraints.
 use mathlib.Core.Path.{_≡_}
-use mathlib.Core.Logic.{_⊎_, _≢_}
+use mathlib.Core.Logic.{_⊎_}
 use mathlib.Core.Bool.{true}
 use mathlib.Core.List.{List, [], _∷_, List·Memᴰ}
 use Prim.Native.Nat.{ℕ, _+_, _≤_, _<_}
 use lib.ListN.{length, getD}
+use Rattle.basics.specs.Distinct.{Distinct}
 use Rattle.runs.specs.declared.Demand.{Demand}
 
 -- e is a demand from a to b, one of ds
@@ -29,10 +30,6 @@ pub data Along (Edge : ℕ → ℕ → Demand → Type 0) : List ℕ → ℕ →
   last : {a z : ℕ} {e : Demand} → Edge a z e → Along Edge (a ∷ []) z (e ∷ [])
   then : {a b z : ℕ} {ms : List ℕ} {e : Demand} {es : List Demand}
       → Edge a b e → Along Edge (b ∷ ms) z es → Along Edge (a ∷ b ∷ ms) z (e ∷ es)
-
--- no moment stands twice
-abbrev pub Distinct : List ℕ → Type 0
-Distinct ms = (i j : ℕ) → i < j → j < length ms → getD ms i 0 ≢ getD ms j 0
 
 -- the sum of f over some demands
 abbrev pub total : (Demand → ℕ) → List Demand → ℕ

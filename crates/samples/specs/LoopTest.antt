@@ -10,7 +10,8 @@ use lib.IntN.{ℤ, pos, negsuc}
 use lib.ListN.{length, getD}
 use borrow.Author.Tests.{eqb-true, eqb-false, eq-eqb, ltb-true, leb-true, not-true}
 use Rattle.runs.specs.declared.Demand.{Demand}
-use Rattle.runs.specs.Loop.{Link, AsTight, Tightest, Along, last, then, Distinct, total, Loop}
+use Rattle.basics.specs.Distinct.{Distinct}
+use Rattle.runs.specs.Loop.{Link, AsTight, Tightest, Along, last, then, total, Loop}
 use Rattle.runs.specs.Parts.{gain, loss, parts-negative}
 use Rattle.runs.specs.Cycle.{distinct-nil, distinct-cons}
 use Rattle.runs.specs.Demand.{ticksOf}

@@ -1,7 +1,9 @@
--- 01's numbers for what is refused.
+-- 01's numbers for what is refused, and those of 02.
+use mathlib.Core.Bool.{Bool, _&&_, _||_}
 use Prim.Native.Nat.{ℕ}
+use lib.Dec.{eqb, leb}
 use Rattle.table.specs.declared.Fault.{Fault}
-use Rattle.table.specs.declared.Fault.the-variants.{Length, Cut, Kind, Head, Bounds, Timer, Relation, Constant, Steps, Tail, Rounds, Times, Starts, Loop, List}
+use Rattle.table.specs.declared.Fault.the-variants.{Length, Cut, Kind, Head, Bounds, Timer, Relation, Constant, Steps, Tail, Rounds, Times, Starts, Loop, List, Twice}
 
 abbrev pub numberOf : Fault → ℕ
 numberOf Length = 1
@@ -19,3 +21,8 @@ numberOf Times = 12
 numberOf Starts = 13
 numberOf Loop = 14
 numberOf List = 15
+numberOf Twice = 16
+
+-- the numbers of faults in a table's bytes: 1 to 10, and 16
+abbrev pub ofTable : ℕ → Bool
+ofTable number = (leb 1 number && leb number 10) || eqb number 16

@@ -28,7 +28,7 @@ pub struct Table {
     pub resets: [bool; 119],
 }
 
-// Why a table, a number of rounds or a room is refused: 01's word for each, in the order of 01's numbers, 1 to 15.
+// Why a table, a number of rounds or a room is refused: 01's word for each, in the order of 01's numbers, 1 to 16.
 pub enum Fault {
     Length,
     Cut,
@@ -45,6 +45,7 @@ pub enum Fault {
     Starts,
     Loop,
     List,
+    Twice,
 }
 
 // A refusal: why, and the byte's place.
@@ -83,5 +84,6 @@ pub fn number(fault: Fault) -> u64
         Fault::Starts => 13,
         Fault::Loop => 14,
         Fault::List => 15,
+        Fault::Twice => 16,
     }
 }

@@ -1,13 +1,13 @@
 -- The bytes of a record, by their places in the table.
-use mathlib.Core.Path.{_≡_, sym, _∙_, ap}
+use mathlib.Core.Path.{_≡_, sym, _∙_, ap, subst}
 use mathlib.Core.List.{List}
 use mathlib.Core.Bool.{true, false}
 use Prim.Native.Nat.{ℕ, _+_, _*_, _-_, _≤_, _<_, min}
 use native.Mathlib.Omega.{arith}
 use lib.ListN.{length, getD, take, drop, length-take, length-drop}
 use lib.Dec.{leb, lit<}
-use borrow.Author.Tests.{ne-eqb, le-leb, lt-leb}
-use Rattle.records.specs.Rules.{headed, guarded, cleared, finished, ended}
+use borrow.Author.Tests.{ne-eqb, le-leb, lt-leb, leb-true}
+use Rattle.records.specs.Rules.{bodySize, headed, guarded, cleared, finished, ended}
 use Rattle.wire.specs.Records.{recordAt}
 use Rattle.wire.specs.Laws.{byte-is}
 use Rattle.records.specs.declared.Tally.{Tally}
@@ -46,6 +46,15 @@ module _ (bytes : List ℕ) (at : ℕ) (t : Tally) where
 -- whether a body is cut short
 body-long : (bytes : List ℕ) (at n : ℕ) → length (take n (drop (at + 1) bytes)) ≡ min n (length bytes - (at + 1))
 body-long bytes at n = simp (length-take, length-drop)
+
+-- the body of a kind, by the kind's number
+pub kind-within : (k n at size : ℕ) → k ≡ n → at + bodySize k < size → at + bodySize n < size
+kind-within k n at size e h = subst (λ j. at + bodySize j < size) e h
+
+-- a body that is not cut short is within the bytes
+pub body-within : (bytes : List ℕ) (at n : ℕ) → at < length bytes → leb n (length (take n (drop (at + 1) bytes))) ≡ true
+    → at + n < length bytes
+body-within bytes at n h e = omega (arith, leb-true n _ e, body-long bytes at n)
 
 pub cut : (bytes : List ℕ) (at n : ℕ) → length bytes - at - 1 < n → leb n (length (take n (drop (at + 1) bytes))) ≡ false
 cut bytes at n h = lt-leb n _ (omega (arith, body-long bytes at n))

@@ -64,6 +64,12 @@ guardsOf [] = []
 guardsOf (guard g ∷ es) = g ∷ guardsOf es
 guardsOf (reset j ∷ es) = guardsOf es
 
+-- the clocks that they reset, in order
+unfoldable pub resetsOf : List Entry → List ℕ
+resetsOf [] = []
+resetsOf (guard g ∷ es) = resetsOf es
+resetsOf (reset j ∷ es) = j ∷ resetsOf es
+
 -- the flags of a step, with its resets set one after the other
 unfoldable pub flagged : List Bool → List Entry → List Bool
 flagged flags [] = flags

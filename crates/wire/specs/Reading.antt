@@ -55,7 +55,7 @@ check len t (r ∷ rs) = elim (judgeOf t r) [ Refused f ↦ read.Refused f | Nex
 
 -- before the first record
 abbrev pub start : Tally
-start = record { clocks = 0; steps = 0; guards = 0; pending = false }
+start = record { clocks = 0; steps = 0; guards = 0; pending = 0 }
 
 -- the answer to the question "read"
 unfoldable pub readOf : List ℕ → Read

@@ -30,31 +30,39 @@ pub fn byte_at(bytes: &[u8], i: usize) -> usize
     bytes[i] as usize
 }
 
+// The byte at a place that is there.
+fn byte_in(bytes: &[u8], i: usize) -> usize
+    requires { ⌜ i < length (now bytes) ⌝ }
+    ensures { λ r. ⌜ (r ≡ getD (now (bytes .entry)) i 0) × (r < 256) ⌝ }
+{
+    bytes[i] as usize
+}
+
 // A guard's record, whose bytes are all there.
 fn read_guard(bytes: &[u8], at: usize, t: Tally) -> Verdict
-    requires { ⌜ at ≤ 4096 ⌝ }
+    requires { ⌜ (at ≤ 4096) × (at + bodySize 2 < length (now bytes)) ⌝ }
     ensures { λ r. ⌜ r ≡ wholeOf t (recordAt at 2 (drop (at + 1) (now (bytes .entry)))) ⌝ }
 {
-    let clock = byte_at(bytes, at + 1);
-    let relation = byte_at(bytes, at + 2);
-    let low = byte_at(bytes, at + 3);
-    let high = byte_at(bytes, at + 4);
+    let clock = byte_in(bytes, at + 1);
+    let relation = byte_in(bytes, at + 2);
+    let low = byte_in(bytes, at + 3);
+    let high = byte_in(bytes, at + 4);
     take_guard(t, at, clock, relation, low + high * 256)
 }
 
 // A record of a kind, whose bytes are all there.
 fn take_whole(bytes: &[u8], at: usize, k: usize, t: Tally) -> Verdict
-    requires { ⌜ at ≤ 4096 ⌝ }
+    requires { ⌜ (at ≤ 4096) × (at + bodySize k < length (now bytes)) ⌝ }
     ensures { λ r. ⌜ r ≡ wholeOf t (recordAt at k (drop (at + 1) (now (bytes .entry)))) ⌝ }
 {
     if k == 1 {
-        return take_head(at, byte_at(bytes, at + 1));
+        return take_head(at, byte_in(bytes, at + 1));
     }
     if k == 2 {
         return read_guard(bytes, at, t);
     }
     if k == 3 {
-        return take_reset(t, at, byte_at(bytes, at + 1));
+        return take_reset(t, at, byte_in(bytes, at + 1));
     }
     if k == 4 {
         return take_step(t, at);
@@ -103,12 +111,20 @@ fn judge_kind(bytes: &[u8], at: usize, k: usize, t: Tally) -> Verdict
     take_whole(bytes, at, k, t)
 }
 
-// The record at a place.
+// The record at a place. Most records are guards and resets: where their kinds are constants, the compiler leaves the tests of the
+// other kinds out.
 fn judge(bytes: &[u8], at: usize, t: Tally) -> Verdict
     requires { ⌜ (at < length (now bytes)) × (length (now bytes) ≤ 4096) ⌝ }
     ensures { λ r. ⌜ r ≡ judgeOf t (recordAt at (getD (now (bytes .entry)) at 0) (drop (at + 1) (now (bytes .entry)))) ⌝ }
 {
-    judge_kind(bytes, at, byte_at(bytes, at), t)
+    let k = byte_in(bytes, at);
+    if k == 2 {
+        return judge_kind(bytes, at, 2, t);
+    }
+    if k == 3 {
+        return judge_kind(bytes, at, 3, t);
+    }
+    judge_kind(bytes, at, k, t)
 }
 
 // The answer where the end has come just before a place.
@@ -143,7 +159,7 @@ pub fn read(bytes: &[u8]) -> Read
         clocks: 0,
         steps: 0,
         guards: 0,
-        pending: false,
+        pending: 0,
     };
     let mut at: usize = 0;
     while at < len {

@@ -7,10 +7,10 @@ use Rattle.reader_test.proofs.small.Statement.{statement}
 use Rattle.reader_test.proofs.small.Tie as tie
 
 abbrev Inv-loop : tie.InvT-loop
-Inv-loop tape case₀ case = (case ≤ 40) × (length tape ≡ 839)
+Inv-loop tape case₀ case = (case ≤ 56) × (length tape ≡ 1418)
 
 abbrev μ-loop : tie.MeasureT-loop
-μ-loop tape case₀ case = 40 - case
+μ-loop tape case₀ case = 56 - case
 
 loop-holds : tie.Need-loop-holds Inv-loop μ-loop
 loop-holds c = search needs

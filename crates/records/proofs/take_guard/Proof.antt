@@ -66,15 +66,20 @@ add-t13 c =
     let g = c .before .before .before .before .before .before .before .args .t .guards in
     search (needs, ltb-true g 64 (not-false (ltb g 64) (c .before .before .before .before .if1 .left)))
 
+mark-requires : tie.Need-mark-requires
+mark-requires c κs = search needs
+
 returns-5 : tie.Need-returns-5
 unfolding guarded
 returns-5 c =
-    let g = c .before .before .before .before .before .before .before .args .t .guards in
+    let s = c .before .before in
+    let g = s .before .before .before .before .before .before .args .t .guards in
     simp (
-      not-false (ltb g 64) (c .before .before .before .before .if1 .left),
-      sym (c .before .before .before .before .before .between .ensures) ∙ not-false _ (c .before .before .before .if2 .left),
-      le-leb _ _ (c .before .before .if3 .left),
-      le-leb _ _ (c .before .if4 .left),
+      not-false (ltb g 64) (s .before .before .before .if1 .left),
+      sym (s .before .before .before .before .between .ensures) ∙ not-false _ (s .before .before .if2 .left),
+      le-leb _ _ (s .before .if3 .left),
+      le-leb _ _ (s .if4 .left),
+      c .mark .ensures,
     )
 
 pub take-guard-spec : {M : Type 1} → statement M
@@ -91,4 +96,5 @@ take-guard-spec =
     refuse-requires-4
     returns-4
     add-t13
+    mark-requires
     returns-5)

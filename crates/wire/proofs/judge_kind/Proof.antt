@@ -1,7 +1,10 @@
 -- `wire::judge_kind` meets its contract: the tests come in the definition's order.
 use borrow.Author.Needs.{needs}
 use mathlib.Core.Path.{sym, _∙_}
+use native.Mathlib.Omega.{arith}
 use borrow.Author.Tests.{not-true, not-false}
+use Rattle.records.specs.Rules.{bodySize}
+use Rattle.wire.proofs.Bytes.{body-within}
 use Rattle.wire.specs.Reading.{judgeOf}
 use Rattle.wire.proofs.judge_kind.Statement.{statement}
 use Rattle.wire.proofs.judge_kind.Tie as tie
@@ -52,7 +55,13 @@ returns-3 c =
     (c .refuse3 .ensures)
 
 take-whole-requires : tie.Need-take-whole-requires
-take-whole-requires c κs = search needs
+take-whole-requires c κs =
+    let s = c .before .before .before in
+    let a = s .before .before .before .before in (
+      omega (arith, a .pre .0, a .pre .1),
+      body-within (a .args .bytes .now) (a .args .at) (bodySize (a .args .k)) (a .pre .0)
+          (sym (s .body-whole .ensures) ∙ not-false _ (c .if3 .left)),
+    )
 
 returns-4 : tie.Need-returns-4
 unfolding judgeOf

@@ -6,15 +6,17 @@ use lib.ListN.{drop}
 use Rattle.wire.specs.Records.{recordAt}
 use Rattle.records.specs.Rules.{headed, cleared}
 use Rattle.wire.specs.Reading.{wholeOf}
-use Rattle.wire.proofs.Bytes.{head-is, reset-is, step-is, end-is}
+use Rattle.wire.proofs.Bytes.{kind-within, head-is, reset-is, step-is, end-is}
 use Rattle.wire.proofs.take_whole.Statement.{statement}
 use Rattle.wire.proofs.take_whole.Tie as tie
 
-add-byte-at : tie.Need-add-byte-at
-add-byte-at c = search needs
+add-byte-in : tie.Need-add-byte-in
+add-byte-in c = search needs
 
-byte-at-requires : tie.Need-byte-at-requires
-byte-at-requires c κs = search needs
+byte-in-requires : tie.Need-byte-in-requires
+byte-in-requires c κs =
+    let s = c .before .before in
+    kind-within (s .args .k) 1 (s .args .at) _ (c .if1 .taken) (s .pre .1)
 
 take-head-requires : tie.Need-take-head-requires
 take-head-requires c κs = search needs
@@ -22,22 +24,26 @@ take-head-requires c κs = search needs
 returns : tie.Need-returns
 returns c =
     let s = c .before .before .before .before in
-    c .take-head .ensures ∙ ap (headed (s .args .at)) (c .before .byte-at .ensures .0)
+    c .take-head .ensures ∙ ap (headed (s .args .at)) (c .before .byte-in .ensures .0)
     ∙ head-is (s .args .bytes .now) (s .args .at) (s .args .t) (s .args .k) (c .before .before .if1 .taken)
 
 read-guard-requires : tie.Need-read-guard-requires
-read-guard-requires c κs = search needs
+read-guard-requires c κs =
+    let s = c .before .before .before in
+    (s .pre .0, kind-within (s .args .k) 2 (s .args .at) _ (c .if2 .taken) (s .pre .1))
 
 returns-2 : tie.Need-returns-2
 returns-2 c =
     let s = c .before .before .before .before in
     c .read-guard .ensures ∙ ap (λ k. wholeOf (s .args .t) (recordAt (s .args .at) k (drop (s .args .at + 1) (s .args .bytes .now)))) (sym (c .before .if2 .taken))
 
-add-byte-at-2 : tie.Need-add-byte-at-2
-add-byte-at-2 c = search needs
+add-byte-in-2 : tie.Need-add-byte-in-2
+add-byte-in-2 c = search needs
 
-byte-at-requires-2 : tie.Need-byte-at-requires-2
-byte-at-requires-2 c κs = search needs
+byte-in-requires-2 : tie.Need-byte-in-requires-2
+byte-in-requires-2 c κs =
+    let s = c .before .before .before .before in
+    kind-within (s .args .k) 3 (s .args .at) _ (c .if3 .taken) (s .pre .1)
 
 take-reset-requires : tie.Need-take-reset-requires
 take-reset-requires c κs = search needs
@@ -45,7 +51,7 @@ take-reset-requires c κs = search needs
 returns-3 : tie.Need-returns-3
 returns-3 c =
     let s = c .before .before .before .before .before .before in
-    c .take-reset .ensures ∙ ap (cleared (s .args .t) (s .args .at)) (c .before .byte-at2 .ensures .0)
+    c .take-reset .ensures ∙ ap (cleared (s .args .t) (s .args .at)) (c .before .byte-in2 .ensures .0)
     ∙ reset-is (s .args .bytes .now) (s .args .at) (s .args .t) (s .args .k) (c .before .before .if3 .taken)
 
 take-step-requires : tie.Need-take-step-requires
@@ -69,14 +75,14 @@ pub take-whole-spec : {M : Type 1} → statement M
 take-whole-spec =
     tie.close
     (tie.spec
-    add-byte-at
-    byte-at-requires
+    add-byte-in
+    byte-in-requires
     take-head-requires
     returns
     read-guard-requires
     returns-2
-    add-byte-at-2
-    byte-at-requires-2
+    add-byte-in-2
+    byte-in-requires-2
     take-reset-requires
     returns-3
     take-step-requires
