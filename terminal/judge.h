@@ -1,6 +1,6 @@
 /* Four questions about a timing table, answered by the proved library libjudge.a.
  *
- * A table has n clocks (1 to 6), L steps a round (1 to 16), which reset each clock once at most, and at most 64 guards. Time is
+ * A table has n clocks (1 to 6), L steps a round (1 to 16), none of which resets a clock twice, and at most 64 guards. Time is
  * counted in parts, P to a tick.
  *
  * Where a run starts
@@ -60,7 +60,7 @@ extern "C" {
 enum {
     JUDGE_ANSWER = 4,
     JUDGE_TABLE = 4096,  /* more bytes are refused unread */
-    JUDGE_LONGEST = 531, /* no longer table is accepted: 64 guards, 16 steps, 6 resets in each */
+    JUDGE_LONGEST = 531, /* the most bytes of a table that is accepted: 64 guards, and 6 resets in each of 16 steps */
     JUDGE_TIMES = 1024,
     JUDGE_STARTS = 6,
     JUDGE_LOOP = 1031,

@@ -724,19 +724,23 @@ fn refused_twice(bytes: &[u8], place: usize) -> Result<(), String> {
     let told = judge::read(bytes, &mut answer);
     same("read", told, answer, true)?;
     for start in STARTS {
+        let mut answer = [KEPT; 4];
         let told = start.rounds(bytes, &mut answer);
         same("rounds", told, answer, true)?;
         let (mut times, mut starts, mut room) = ([KEPT; MOMENTS], [KEPT; CLOCKS], [KEPT; MOMENTS]);
         let rooms: [&mut [u64]; 3] = [&mut times, &mut starts, &mut room];
+        let mut answer = [KEPT; 4];
         let told = start.plan(bytes, 1, rooms, &mut answer);
         let all_kept = kept(&times, 0) && kept(&starts, 0) && kept(&room, 0);
         same("plan", told, answer, all_kept)?;
         let mut row = [SIGNED; 4 * MOMENTS];
+        let mut answer = [KEPT; 4];
         let told = start.demands(bytes, 1, &mut row, &mut answer);
         let all_kept = row.iter().all(|&place| place == SIGNED);
         same("demands", told, answer, all_kept)?;
     }
     let (mut marks, mut times) = ([KEPT as u8; MOMENTS], [KEPT as f64; 2 * MOMENTS]);
+    let mut answer = [KEPT; 4];
     let told = panel::windows(bytes, 1, &mut marks, &mut times, &mut answer);
     let all_kept = marks == [KEPT as u8; MOMENTS] && times == [KEPT as f64; 2 * MOMENTS];
     same("windows", told, answer, all_kept)?;

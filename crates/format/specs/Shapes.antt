@@ -43,7 +43,7 @@ abbrev pub weight : Entry → ℕ
 weight (guard g) = 1
 weight (reset j) = 0
 
--- the digit that an entry marks, and whether a step may have it: it does not reset the clock yet
+-- the digit that an entry marks, and whether it resets no clock a second time
 abbrev pub digitOf : Entry → ℕ
 digitOf (guard g) = 0
 digitOf (reset j) = j

@@ -6,7 +6,7 @@ ghost use Prim.Native.Nat.{_≤_};
 ghost use Rattle.records.specs.Rules.{bodySize, within, isFree, marked, headed, guarded, cleared, finished, ended};
 
 // What the tests of a record ask of the records before it: the clocks, the finished steps and all guards; and what the step under
-// way has so far, as binary digits, 0 for a guard and j for a reset of clock j.
+// way has so far, as binary digits: digit 0 for a guard, digit j for a reset of clock j.
 pub struct Tally {
     pub clocks: usize,
     pub steps: usize,

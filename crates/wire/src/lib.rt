@@ -20,6 +20,14 @@ ghost use Rattle.records.specs.Rules.{bodySize};
 ghost use Rattle.wire.specs.Records.{recordAt, recordsAt};
 ghost use Rattle.wire.specs.Reading.{agree, wholeOf, judgeOf, tail, readOf};
 
+// The byte at a place that is there.
+fn byte_in(bytes: &[u8], i: usize) -> usize
+    requires { ⌜ i < length (now bytes) ⌝ }
+    ensures { λ r. ⌜ (r ≡ getD (now (bytes .entry)) i 0) × (r < 256) ⌝ }
+{
+    bytes[i] as usize
+}
+
 // The byte at a place, or 0 past the end.
 pub fn byte_at(bytes: &[u8], i: usize) -> usize
     ensures { λ r. ⌜ (r ≡ getD (now (bytes .entry)) i 0) × (r < 256) ⌝ }
@@ -27,15 +35,7 @@ pub fn byte_at(bytes: &[u8], i: usize) -> usize
     if bytes.len() <= i {
         return 0;
     }
-    bytes[i] as usize
-}
-
-// The byte at a place that is there.
-fn byte_in(bytes: &[u8], i: usize) -> usize
-    requires { ⌜ i < length (now bytes) ⌝ }
-    ensures { λ r. ⌜ (r ≡ getD (now (bytes .entry)) i 0) × (r < 256) ⌝ }
-{
-    bytes[i] as usize
+    byte_in(bytes, i)
 }
 
 // A guard's record, whose bytes are all there.

@@ -1,6 +1,6 @@
 -- `records::take_reset` meets its contract: the tests come in the definition's order.
 use borrow.Author.Needs.{needs}
-use mathlib.Core.Path.{sym, ap, _∙_}
+use mathlib.Core.Path.{sym, _∙_}
 use Rattle.records.specs.Rules.{cleared}
 use Rattle.records.proofs.take_reset.Statement.{statement}
 use Rattle.records.proofs.take_reset.Tie as tie

@@ -1,22 +1,18 @@
--- `wire::byte_at` meets its contract: past the end the default is read, and a byte is below 256.
-use mathlib.Core.Path.{refl, sym}
-use native.Mathlib.Omega.{arith}
+-- `wire::byte_at` meets its contract: past the end the default is read.
+use mathlib.Core.Path.{sym}
 use borrow.Author.Needs.{needs}
 use lib.ListN.{List·getD-eq-default}
 use Rattle.wire.proofs.byte_at.Statement.{statement}
 use Rattle.wire.proofs.byte_at.Tie as tie
 
 returns : tie.Need-returns
-returns c = (sym (List·getD-eq-default (c .before .args .bytes .now) 0 (c .if1 .taken)), search needs)
+returns c = (sym (List·getD-eq-default (c .before .before .args .bytes .now) 0 (c .if1 .taken)), search needs)
 
-shared-slice-read-result : tie.Need-shared-slice-read-result
-shared-slice-read-result c = search needs
-
-cast-result : tie.Need-cast-result
-cast-result c = omega (arith, c .shared-slice-known .given (c .before .before .args .i))
+byte-in-requires : tie.Need-byte-in-requires
+byte-in-requires c κs = search needs
 
 returns-2 : tie.Need-returns-2
-returns-2 c = (refl, omega (arith, c .shared-slice-known .given (c .before .before .args .i)))
+returns-2 c = c .byte-in .ensures
 
 pub byte-at-spec : {M : Type 1} → statement M
-byte-at-spec = tie.close (tie.spec returns shared-slice-read-result cast-result returns-2)
+byte-at-spec = tie.close (tie.spec returns byte-in-requires returns-2)
