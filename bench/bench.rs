@@ -1,5 +1,5 @@
-//! Times the proved library beside plain Rust, question by question, from log-in and in mid-shift; and the panel beside plain
-//! Rust and beside the plan of the same rounds.
+//! Times the proved libraries beside plain Rust, question by question, from log-in and in mid-shift; the panel also beside the
+//! plan of the same rounds; and a scan also beside reading the same table, which each scan does.
 //!
 //! The sides take turns in the same run, each turn a batch of calls; the median batch counts. Time is that of this thread on a
 //! processor, so that other work on the machine does not count. The answers of the two must agree.
@@ -10,6 +10,10 @@ mod judge;
 mod panel;
 #[path = "../plain/plain.rs"]
 mod plain;
+#[path = "../terminal/scan.rs"]
+mod scan;
+#[path = "../plain/scans.rs"]
+mod scans;
 
 use plain::entries;
 use std::cell::RefCell;
@@ -549,6 +553,84 @@ fn bench_panels() {
     println!("windows by plan: at most {most:.2}; the goal is 4");
 }
 
+/// A running record: the next step, six readings and a counter.
+type Record = [u16; 8];
+
+type Scan = fn(&[u8], u16, &mut [u16], &mut [u64]) -> bool;
+
+/// What is made of a scan, and the record after it. Each call has the record anew.
+fn ask_scan(scan: Scan, bytes: &[u8], record: &Record, counter: u16) -> ([u64; 4], Record) {
+    let (mut running, mut answer) = (*black_box(record), [9; 4]);
+    assert!(scan(
+        black_box(bytes),
+        black_box(counter),
+        &mut running,
+        &mut answer
+    ));
+    black_box((answer, running))
+}
+
+/// A scan at a step, of the library and of plain Rust, and the library's reading of the same table. Scan by reading.
+fn bench_scan(name: &str, bytes: &[u8], step: u16, readings: [u16; 6], passed: u16) -> f64 {
+    let [x, y, z, u, v, w] = readings;
+    // The counter starts again.
+    let (record, counter) = ([step, x, y, z, u, v, w, 65535], passed.wrapping_sub(1));
+    let told = ask_scan(scan::one, bytes, &record, counter);
+    assert_eq!(
+        told,
+        ask_scan(scans::entries::scan, bytes, &record, counter)
+    );
+    let kind = match told.0 {
+        [0, 0, 0, 0] => "accepted".into(),
+        [0, guard, 0, 0] => format!("turned away by guard {guard}"),
+        _ => format!("refused {}", told.0[0]),
+    };
+    let mut answer = [9; 4];
+    let [scan, plain, read] = time([
+        &mut || {
+            ask_scan(scan::one, bytes, &record, counter);
+        },
+        &mut || {
+            ask_scan(scans::entries::scan, bytes, &record, counter);
+        },
+        &mut || assert!(judge::read(black_box(bytes), black_box(&mut answer))),
+    ]);
+    println!(
+        "{:<60} {scan:>11.0} {plain:>11.0} {:>6.2} {:>7.2} {read:>11.0}",
+        format!("{name}, {} bytes, at step {step}: {kind}", bytes.len()),
+        scan / plain,
+        scan / read
+    );
+    scan / read
+}
+
+/// Scans at the first and at the last step of tables, accepted and turned away, there by the last guard.
+fn bench_scans() {
+    println!("{:<60} {:>38} {:>11}", "", "scan", "read");
+    print!(
+        "{:<60} {:>11} {:>11} {:>6}",
+        "scan", "proved ns", "plain ns", "ratio"
+    );
+    println!(" {:>7} {:>11}", "by read", "proved ns");
+    let (line, longest, guards) = (line(), longest(), guards_only());
+    let ratios = [
+        bench_scan("S1", S1, 1, [0; 6], 3),
+        bench_scan("S1", S1, 1, [0; 6], 2),
+        bench_scan("5 steps", &line, 1, [0; 6], 20),
+        bench_scan("5 steps", &line, 1, [0; 6], 19),
+        bench_scan("5 steps", &line, 5, [10, 10, 2, 0, 0, 0], 1),
+        bench_scan("5 steps", &line, 5, [10, 10, 1, 0, 0, 0], 1),
+        bench_scan("the longest", &longest, 1, [0; 6], 4000),
+        bench_scan("the longest", &longest, 1, [0, 0, 0, 1, 0, 0], 4000),
+        bench_scan("the longest", &longest, 16, [0; 6], 4000),
+        bench_scan("the longest", &longest, 16, [0, 0, 0, 1, 0, 0], 4000),
+        bench_scan("the longest", &longest, 17, [0; 6], 4000),
+        bench_scan("64 guards in a step", &guards, 1, [0; 6], 4000),
+    ];
+    let most = ratios.into_iter().fold(0.0, f64::max);
+    println!("scan by read: at most {most:.2}");
+}
+
 fn main() {
     println!(
         "{:<60} {:>30} {:>30} {:>9}",
@@ -593,4 +675,6 @@ fn main() {
     bench_demands("the largest row", &crowded(EXACTLY, 3), 1024);
     println!();
     bench_panels();
+    println!();
+    bench_scans();
 }

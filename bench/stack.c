@@ -2,6 +2,7 @@
  * gone. Needs the static libraries; prints one line for each table and entry, and fails if one takes more than LIMIT bytes. */
 #include "../terminal/judge.h"
 #include "../terminal/panel.h"
+#include "../terminal/scan.h"
 #include <stdio.h>
 #include <stdlib.h>
 #include <string.h>
@@ -16,6 +17,7 @@ static int64_t row[JUDGE_ROW];
 static uint8_t marks[PANEL_MARKS];
 static double seconds[PANEL_TIMES];
 static struct panel_widest_answer widest;
+static uint16_t running[SCAN_RUNNING];
 
 static void ask_read(void) { judge_read(table, length, answer, 4); }
 static void ask_rounds(void) { judge_rounds(table, length, answer, 4); }
@@ -32,6 +34,17 @@ static void ask_windows(void) {
     panel_windows(table, length, rounds_asked, marks, PANEL_MARKS, seconds, PANEL_TIMES, answer, 4);
 }
 static void ask_widest(void) { widest = panel_widest(table, length, rounds_asked); }
+static void ask_log_in(void) { scan_log_in(7, running, SCAN_RUNNING); }
+/* A scan after no, few and many ticks at each step that there can be, and at one that there is not. */
+static void ask_scan(void) {
+    static const uint16_t passed[] = {0, 3, 4000};
+    for (uint16_t step = 0; step <= 16; step++)
+        for (int i = 0; i < 3; i++) {
+            memset(running, 0, sizeof running);
+            running[SCAN_STEP] = step;
+            scan_one(table, length, passed[i], running, SCAN_RUNNING, answer, 4);
+        }
+}
 
 /* The bytes below this frame that a call changed, MARGIN at least. */
 static __attribute__((noinline)) size_t taken(void (*call)(void)) {
@@ -94,9 +107,10 @@ static int failed;
 static void line(const char *name, uint64_t k) {
     rounds_asked = k;
     void (*asked[])(void) = {ask_read, ask_rounds, ask_plan, ask_demands,
-                             ask_rounds_mid_shift, ask_plan_mid_shift, ask_demands_mid_shift, ask_windows, ask_widest};
+                             ask_rounds_mid_shift, ask_plan_mid_shift, ask_demands_mid_shift, ask_windows, ask_widest,
+                             ask_log_in, ask_scan};
     printf("%-44s", name);
-    for (int i = 0; i < 9; i++) {
+    for (int i = 0; i < 11; i++) {
         size_t bytes = taken(asked[i]);
         printf(" %8zu", bytes);
         if (bytes > LIMIT) failed = 1;
@@ -113,10 +127,10 @@ static void sample(const char *path, uint64_t k) {
 }
 
 int main(void) {
-    printf("%-44s %8s %26s %26s %17s\n", "", "", "from log-in", "in mid-shift", "panel");
+    printf("%-44s %8s %26s %26s %17s %17s\n", "", "", "from log-in", "in mid-shift", "panel", "scans");
     printf("%-44s %8s", "stack in bytes", "read");
     for (int i = 0; i < 2; i++) printf(" %8s %8s %8s", "rounds", "plan", "demands");
-    printf(" %8s %8s\n", "windows", "widest");
+    printf(" %8s %8s %8s %8s\n", "windows", "widest", "log-in", "scan");
     sample("samples/S1.table", 1024);
     sample("samples/S2.table", 2);
     sample("samples/S10.table", 2);

@@ -1,5 +1,6 @@
-//! The four questions about a timing table and the panel's two, in plain Rust and with no proofs. The proved library is compared
-//! with it, in what it answers (terminal/compare.rs) and in how long it takes (bench/bench.rs).
+//! The four questions about a timing table and the panel's two, in plain Rust and with no proofs; scans.rs beside it judges scans.
+//! The proved libraries are compared with them, in what they answer (terminal/compare.rs) and in how long they take
+//! (bench/bench.rs).
 //!
 //! Rounds, plan and demands have two variants: runs from log-in, which sets every clock to 0, or in mid-shift, from any readings.
 //! The panel shows runs from log-in.
@@ -38,6 +39,7 @@ pub enum Fault {
     Loop,
     List,
     Twice,
+    Record,
 }
 
 /// A fault and the place of the byte that it is found at, or 0.
@@ -397,9 +399,9 @@ fn resets_before(total: usize) -> Resets {
 }
 
 /// A legal table.
-struct Table {
-    clocks: usize,
-    steps: usize,
+pub struct Table {
+    pub clocks: usize,
+    pub steps: usize,
     guards: [Guard; GUARDS],
     /// Step i has the guards from place `ends[i]` up to place `ends[i + 1]`.
     ends: [usize; STEPS + 1],
@@ -408,7 +410,7 @@ struct Table {
 }
 
 impl Table {
-    fn parse(bytes: &[u8]) -> Result<Table, Refusal> {
+    pub fn parse(bytes: &[u8]) -> Result<Table, Refusal> {
         let none = Guard {
             clock: 0,
             relation: Relation::Under,
@@ -456,14 +458,20 @@ impl Table {
         })
     }
 
-    fn guards_of(&self, step: usize) -> &[Guard] {
+    /// The guards of a step, counted from 0.
+    pub fn guards_of(&self, step: usize) -> &[Guard] {
         &self.guards[self.ends[step]..self.ends[step + 1]]
+    }
+
+    /// Whether a step resets a clock.
+    pub fn resets(&self, step: usize, clock: usize) -> bool {
+        self.resets[step] >> clock & 1 == 1
     }
 
     /// The resets of a step take place at a moment.
     fn reset(&self, step: usize, moment: usize, last: &mut Resets) {
         for j in 1..=self.clocks {
-            if self.resets[step] >> j & 1 == 1 {
+            if self.resets(step, j) {
                 last[j] = moment;
             }
         }
@@ -772,11 +780,7 @@ impl Effect {
         let now = side;
         put(now, 0, ZERO);
         for j in 1..side {
-            let last = if table.resets[step] >> j & 1 == 1 {
-                now
-            } else {
-                j
-            };
+            let last = if table.resets(step, j) { now } else { j };
             put(0, j, ZERO);
             put(last, side + j, ZERO);
             put(side + j, last, ZERO);

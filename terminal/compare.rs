@@ -1,8 +1,9 @@
-//! Compares the proved library with plain Rust: 01's samples, random legal tables and damaged ones, each with all four
+//! Compares the proved libraries with plain Rust: 01's samples, random legal tables and damaged ones, each with all four
 //! questions, from log-in and in mid-shift, and with the panel's two, with rooms that are short, exact and longer. Every room is
 //! filled with random numbers before a call, so that what must be kept is seen to be kept. Where a loop is answered each side's
 //! loop is held to 01's definition, since which one is written is free. Windows are also held to shortest paths over all demands
-//! (plain/windows.rs), and each second to the exact fraction that it stands for, in whole numbers.
+//! (plain/windows.rs), and each second to the exact fraction that it stands for, in whole numbers. Then log-in and scans: those
+//! that are known, shifts of random tables, and running records of all kinds.
 //!
 //! Prints counts and "compare: N agreed, 0 differ". Exit status 1 where something differs, or where a kind of answer did not
 //! occur.
@@ -13,6 +14,10 @@ mod judge;
 mod panel;
 #[path = "../plain/plain.rs"]
 mod plain;
+#[path = "scan.rs"]
+mod scan;
+#[path = "../plain/scans.rs"]
+mod scans;
 #[path = "../plain/windows.rs"]
 mod windows;
 
@@ -48,6 +53,9 @@ struct Side {
     mid_shift: Questions,
     windows: fn(&[u8], u64, &mut [u8], &mut [f64], &mut [u64]) -> bool,
     widest: fn(&[u8], u64) -> Widest,
+    /// Log-in, which writes a running record.
+    begin: fn(u16, &mut [u16]) -> bool,
+    scan: fn(&[u8], u16, &mut [u16], &mut [u64]) -> bool,
 }
 
 impl Side {
@@ -73,6 +81,8 @@ const PROVED: Side = Side {
     },
     windows: panel::windows,
     widest: panel::widest,
+    begin: scan::log_in,
+    scan: scan::one,
 };
 
 const PLAIN: Side = Side {
@@ -89,6 +99,8 @@ const PLAIN: Side = Side {
     },
     windows: entries::windows,
     widest: entries::widest,
+    begin: scans::entries::log_in,
+    scan: scans::entries::scan,
 };
 
 /// Random numbers from a fixed seed (splitmix64).
@@ -1151,9 +1163,563 @@ impl Compare {
     }
 }
 
+// Scans.
+
+/// A running record: the next step, six readings and a counter.
+type Record = [u16; 8];
+
+/// A record with these readings, and 0 for the other clocks.
+fn record(step: usize, readings: &[u16], counter: u16) -> Record {
+    let mut record = [0; 8];
+    record[0] = step as u16;
+    record[1..=readings.len()].copy_from_slice(readings);
+    record[7] = counter;
+    record
+}
+
+/// How many places before and after a lent room are looked at too.
+const AROUND: usize = 3;
+
+/// The part of a room that is lent.
+fn lent<T>(room: &mut [T]) -> &mut [T] {
+    let end = room.len() - AROUND;
+    &mut room[AROUND..end]
+}
+
+/// The rooms of a scan, with places around them.
+#[derive(Clone, PartialEq, Debug)]
+struct Scan {
+    running: Vec<u16>,
+    answer: Vec<u64>,
+}
+
+impl Scan {
+    fn ask(&self, side: &Side, bytes: &[u8], counter: u16) -> (bool, Scan) {
+        let mut s = self.clone();
+        let told = (side.scan)(bytes, counter, lent(&mut s.running), lent(&mut s.answer));
+        (told, s)
+    }
+}
+
+/// What is known of a scan: the record after it, the guard that turns it away, or the number and the place of a refusal.
+#[derive(Clone, Copy)]
+enum Judged {
+    Accepted(Record),
+    TurnedAway(u64),
+    Refused(u64, u64),
+}
+
+impl Compare {
+    /// Rooms of these lengths, running and answer, with places around them. The first places of the one hold a record, as far as
+    /// they go; all others any numbers.
+    fn scan_rooms(&mut self, record: Record, [running, answer]: [usize; 2]) -> Scan {
+        let mut running: Vec<u16> = (0..running + 2 * AROUND)
+            .map(|_| self.random.next() as u16)
+            .collect();
+        for (place, number) in lent(&mut running).iter_mut().zip(record) {
+            *place = number;
+        }
+        let answer = self.random.room(answer + 2 * AROUND);
+        Scan { running, answer }
+    }
+
+    /// Log-in with a room of some length.
+    fn log_in(&mut self, counter: u16, len: usize) {
+        let room = self.scan_rooms([7; 8], [len, 0]).running;
+        let (mut a, mut b) = (room.clone(), room.clone());
+        let told = (
+            (PROVED.begin)(counter, lent(&mut a)),
+            (PLAIN.begin)(counter, lent(&mut b)),
+        );
+        let mut known = room;
+        if len >= 8 {
+            lent(&mut known)[..8].copy_from_slice(&record(1, &[], counter));
+            self.saw("log-in: answered".into());
+        } else {
+            self.saw("log-in: room too short".into());
+        }
+        self.tell(
+            told == (len >= 8, len >= 8) && a == known && b == known,
+            &[],
+            format_args!("log-in at {counter}, room {len}"),
+            format_args!("{} {a:?}", told.0),
+            format_args!("{} {b:?}", told.1),
+        );
+    }
+
+    /// A scan at a counter, with rooms of these lengths, running and answer; the record after it, where there is room for it.
+    fn scan(&mut self, bytes: &[u8], record: Record, counter: u16, lens: [usize; 2]) -> Record {
+        let before = self.scan_rooms(record, lens);
+        let (told_a, a) = before.ask(&PROVED, bytes, counter);
+        let (told_b, mut b) = before.ask(&PLAIN, bytes, counter);
+        let roomy = lens[0] >= 8 && lens[1] >= 4;
+        self.tell(
+            (told_a, told_b) == (roomy, roomy) && a == b && (roomy || b == before),
+            bytes,
+            format_args!("scan at {counter} of {record:?}, rooms {lens:?}"),
+            format_args!("{told_a} {a:?}"),
+            format_args!("{told_b} {b:?}"),
+        );
+        if !roomy {
+            self.saw("scan: a room too short".into());
+            return record;
+        }
+        let answer = &lent(&mut b.answer)[..4];
+        match answer {
+            [0, 0, ..] => self.saw("scan: accepted".into()),
+            [0, ..] => self.saw("scan: turned away".into()),
+            _ => self.saw_refusal("scan", answer),
+        }
+        std::array::from_fn(|i| lent(&mut b.running)[i])
+    }
+
+    /// Both sides judge a scan as is known; the record after it.
+    fn named_scan(&mut self, bytes: &[u8], record: Record, counter: u16, known: Judged) -> Record {
+        let (answer, after) = match known {
+            Judged::Accepted(after) => ([0; 4], after),
+            Judged::TurnedAway(guard) => ([0, guard, 0, 0], record),
+            Judged::Refused(number, place) => ([number, place, 0, 0], record),
+        };
+        let before = self.scan_rooms(record, [8, 4]);
+        let mut expected = before.clone();
+        lent(&mut expected.running).copy_from_slice(&after);
+        lent(&mut expected.answer).copy_from_slice(&answer);
+        let told = [PROVED, PLAIN].map(|side| before.ask(&side, bytes, counter));
+        self.tell(
+            told.iter().all(|t| *t == (true, expected.clone())),
+            bytes,
+            format_args!("scan at {counter} of {record:?}, known {answer:?} {after:?}"),
+            format_args!("{:?}", told[0]),
+            format_args!("{:?}", told[1]),
+        );
+        after
+    }
+
+    /// Log-in at a counter, and then scans that are known.
+    fn named_shift(&mut self, bytes: &[u8], first: u16, scans: &[(u16, Judged)]) {
+        self.log_in(first, 8);
+        let mut running = record(1, &[], first);
+        for &(counter, known) in scans {
+            running = self.named_scan(bytes, running, counter, known);
+        }
+    }
+
+    /// The samples from log-in, in whole ticks.
+    fn scans_of_samples(&mut self) {
+        use Judged::{Accepted, TurnedAway};
+        let one = |readings: &[u16], counter| Accepted(record(1, readings, counter));
+        let known: [&[(u16, Judged)]; 11] = [
+            // A scan turned away leaves the counter, and guards are tested before the resets.
+            &[
+                (2, TurnedAway(1)),
+                (4, one(&[0], 4)),
+                (6, TurnedAway(1)),
+                (7, one(&[0], 7)),
+            ],
+            &[
+                (2, TurnedAway(1)),
+                (3, one(&[0, 3], 3)),
+                (5, TurnedAway(1)),
+                (6, TurnedAway(2)),
+            ],
+            &[
+                (2, TurnedAway(1)),
+                (3, one(&[0, 3], 3)),
+                (5, TurnedAway(1)),
+                (6, TurnedAway(2)),
+            ],
+            &[
+                (3, one(&[0, 3], 3)),
+                (6, one(&[0, 6], 6)),
+                (8, TurnedAway(1)),
+                (9, TurnedAway(2)),
+            ],
+            &[(0, TurnedAway(1)), (1, TurnedAway(2))],
+            &[
+                (0, TurnedAway(1)),
+                (1, TurnedAway(1)),
+                (65535, TurnedAway(1)),
+            ],
+            &[(0, TurnedAway(2)), (1, TurnedAway(1))],
+            // Without end in parts of a tick, but not in whole ones.
+            &[(0, TurnedAway(1)), (1, TurnedAway(2))],
+            &[
+                (1, TurnedAway(1)),
+                (2, one(&[2], 2)),
+                (2, one(&[2], 2)),
+                (3, TurnedAway(1)),
+            ],
+            &[
+                (0, Accepted(record(2, &[0, 0], 0))),
+                (2, TurnedAway(1)),
+                (3, one(&[0, 3], 3)),
+                (5, Accepted(record(2, &[2, 0], 5))),
+                (7, TurnedAway(1)),
+                (8, one(&[0, 3], 8)),
+                (11, TurnedAway(1)),
+            ],
+            &[
+                (0, TurnedAway(1)),
+                (1, one(&[0, 1], 1)),
+                (4000, one(&[0, 4000], 4000)),
+                (4001, TurnedAway(2)),
+                (65535, TurnedAway(2)),
+            ],
+        ];
+        for (s, scans) in SAMPLES.iter().zip(known) {
+            self.named_shift(s.bytes, 0, scans);
+            // The same from another counter.
+            let first = self.random.next() as u16;
+            let moved = |&(counter, judged): &(u16, Judged)| {
+                let judged = match judged {
+                    Accepted(mut after) => {
+                        after[7] = after[7].wrapping_add(first);
+                        Accepted(after)
+                    }
+                    judged => judged,
+                };
+                (first.wrapping_add(counter), judged)
+            };
+            let scans: Vec<_> = scans.iter().map(moved).collect();
+            self.named_shift(s.bytes, first, &scans);
+            for _ in 0..40 {
+                self.shift(s.bytes, 40);
+            }
+        }
+    }
+
+    /// Scans at which a judge goes wrong easily.
+    fn scans_known(&mut self) {
+        use Judged::{Accepted, TurnedAway};
+        let s1 = SAMPLES[0].bytes;
+        let of_one = |records: &[Vec<u8>]| table(1, &[records.to_vec()]);
+        let one = |readings: &[u16], counter| Accepted(record(1, readings, counter));
+        // The counter starts again after 65,535.
+        self.named_shift(s1, 65535, &[(1, TurnedAway(1)), (2, one(&[0], 2))]);
+        let two = of_one(&[guard(1, EXACTLY, 2)]);
+        self.named_shift(&two, 65535, &[(0, TurnedAway(1)), (1, one(&[2], 1))]);
+        self.named_shift(&two, 65533, &[(65535, one(&[2], 65535))]);
+        // No ticks, one, and as many as there can be.
+        let free = of_one(&[]);
+        self.named_shift(&free, 7, &[(7, one(&[0], 7)), (8, one(&[1], 8))]);
+        self.named_shift(&free, 7, &[(6, one(&[4001], 6)), (6, one(&[4001], 6))]);
+        self.named_shift(s1, 0, &[(65535, one(&[0], 65535)), (65535, TurnedAway(1))]);
+        // A reading is held at 4,001, and not before, and let go by a reset.
+        let mut running = record(1, &[3998], 65534);
+        for (counter, reading) in [(65535, 3999), (0, 4000), (1, 4001), (2, 4001), (5000, 4001)] {
+            running = self.named_scan(&free, running, counter, one(&[reading], counter));
+        }
+        self.named_scan(&free, record(1, &[3999], 0), 3, one(&[4001], 3));
+        self.named_scan(&free, record(1, &[2], 0), 3998, one(&[4000], 3998));
+        self.named_scan(s1, record(1, &[4001], 10), 11, one(&[0], 11));
+        let long = of_one(&[guard(1, OVER, 4000)]);
+        self.named_shift(
+            &long,
+            0,
+            &[(4000, TurnedAway(1)), (4001, one(&[4001], 4001))],
+        );
+        self.named_shift(
+            &long,
+            0,
+            &[(5000, one(&[4001], 5000)), (5001, one(&[4001], 5001))],
+        );
+        // 4,001 and 65,535 is 4,000 in 16 bits.
+        let short = of_one(&[guard(1, AT_MOST, 4000)]);
+        self.named_scan(&short, record(1, &[4001], 1), 0, TurnedAway(1));
+        self.named_scan(&short, record(1, &[1], 1), 0, TurnedAway(1));
+        self.named_scan(&short, record(1, &[3999], 1), 2, one(&[4000], 2));
+        // A guard's number is that in its step, resets not counted.
+        let second = vec![reset(1), guard(2, AT_MOST, 0), guard(1, AT_MOST, 0)];
+        let in_step = table(2, &[vec![guard(1, AT_LEAST, 0)], second]);
+        let begun = Accepted(record(2, &[0, 0], 0));
+        self.named_shift(&in_step, 0, &[(0, begun), (1, TurnedAway(1))]);
+        self.named_scan(&in_step, record(2, &[1, 0], 0), 0, TurnedAway(2));
+        self.named_scan(&in_step, record(2, &[0, 0], 0), 0, one(&[0, 0], 0));
+        // Exactly is one guard.
+        let exact = of_one(&[
+            guard(1, AT_LEAST, 0),
+            guard(1, EXACTLY, 5),
+            guard(1, AT_MOST, 9),
+        ]);
+        self.named_shift(&exact, 0, &[(12, TurnedAway(2))]);
+        self.named_shift(&exact, 0, &[(4, TurnedAway(2)), (5, one(&[5], 5))]);
+        let after_exact = table(2, &[vec![guard(1, EXACTLY, 4), guard(2, AT_MOST, 3)]]);
+        self.named_shift(&after_exact, 0, &[(4, TurnedAway(2))]);
+        // The last of 64 guards.
+        let mut crowd = vec![guard(1, AT_MOST, 9); 63];
+        crowd.push(guard(1, AT_MOST, 8));
+        let crowd = of_one(&crowd);
+        self.named_shift(
+            &crowd,
+            0,
+            &[(8, one(&[8], 8)), (9, TurnedAway(64)), (10, TurnedAway(1))],
+        );
+        // Each clock has its own reading, and a step resets its own clocks.
+        let apart = table(
+            3,
+            &[vec![reset(2)], vec![guard(2, EXACTLY, 4), reset(3)], vec![]],
+        );
+        let scans = [
+            (10, Accepted(record(2, &[10, 0, 10], 10))),
+            (13, TurnedAway(1)),
+            (14, Accepted(record(3, &[14, 4, 0], 14))),
+            (20, one(&[20, 10, 6], 20)),
+        ];
+        self.named_shift(&apart, 0, &scans);
+        // All clocks in one.
+        let all: Vec<_> = (1..=6).map(|j| guard(j, EXACTLY, 10 * j)).collect();
+        let all = table(6, &[all]);
+        for late in 1..=6 {
+            let mut readings: [u16; 6] = std::array::from_fn(|j| 10 * (j as u16 + 1) - 3);
+            let after = readings.map(|reading| reading + 3);
+            self.named_scan(&all, record(1, &readings, 0), 3, one(&after, 3));
+            readings[late - 1] += 1;
+            self.named_scan(&all, record(1, &readings, 0), 3, TurnedAway(late as u64));
+        }
+    }
+
+    /// Each relation at its edge: of constants up to the largest, at the reading before, at and after it, come to in several ways.
+    fn relations_known(&mut self) {
+        let relations = [
+            (UNDER, [true, false, false]),
+            (AT_MOST, [true, true, false]),
+            (EXACTLY, [false, true, false]),
+            (AT_LEAST, [false, true, true]),
+            (OVER, [false, false, true]),
+        ];
+        for (relation, held) in relations {
+            for constant in [0, 1, 2, 255, 256, 257, 3998, 3999, 4000] {
+                let bytes = table(1, &[vec![guard(1, relation, constant)]]);
+                for (i, holds) in held.into_iter().enumerate() {
+                    let Some(reading) = (constant + i).checked_sub(1) else {
+                        continue;
+                    };
+                    let reading = reading as u16;
+                    for passed in [0, 1, reading / 2, reading] {
+                        let (first, passed) = (self.random.next() as u16, passed.min(reading));
+                        let before = record(1, &[reading - passed], first);
+                        let counter = first.wrapping_add(passed);
+                        let known = match holds {
+                            true => Judged::Accepted(record(1, &[reading], counter)),
+                            false => Judged::TurnedAway(1),
+                        };
+                        self.named_scan(&bytes, before, counter, known);
+                    }
+                }
+            }
+        }
+    }
+
+    /// Sixteen steps gone round twice: step i is exactly i ticks after the one before. Each scan also a tick early, and turned away.
+    fn rounds_known(&mut self) {
+        let steps: Vec<_> = (1..=16)
+            .map(|i| vec![guard(1, EXACTLY, i), reset(1)])
+            .collect();
+        let bytes = table(1, &steps);
+        let first = 65400;
+        let mut counter: u16 = first;
+        let mut scans = Vec::new();
+        for i in (1..=16).chain(1..=16) {
+            counter = counter.wrapping_add(i);
+            let next = usize::from(i) % 16 + 1;
+            scans.push((counter.wrapping_sub(1), Judged::TurnedAway(1)));
+            scans.push((counter, Judged::Accepted(record(next, &[0], counter))));
+        }
+        self.named_shift(&bytes, first, &scans);
+    }
+
+    /// Records that a table cannot go on from, and those that it can just go on from.
+    fn records_known(&mut self) {
+        use Judged::{Accepted, Refused};
+        for steps in 1..=16 {
+            let bytes = table(2, &vec![vec![]; steps]);
+            for step in [0, steps + 1, 17, 256, 257, 65535] {
+                if step != 0 && step <= steps {
+                    continue;
+                }
+                self.named_scan(&bytes, record(step, &[1, 2], 3), 4, Refused(17, 0));
+            }
+            for step in 1..=steps {
+                let after = record(step % steps + 1, &[2, 3], 4);
+                self.named_scan(&bytes, record(step, &[1, 2], 3), 4, Accepted(after));
+            }
+        }
+        for clocks in 1..=6 {
+            let resets = (1..=clocks).map(reset).collect();
+            for (bytes, reset) in [
+                (table(clocks, &[vec![]]), false),
+                (table(clocks, &[resets]), true),
+            ] {
+                for clock in 1..=6 {
+                    for reading in [4000, 4001, 4002, 9999, 65534, 65535] {
+                        let mut before = record(1, &[11, 12, 13, 14, 15, 16], 3);
+                        before[clock] = reading;
+                        // Readings past n are kept, and those of the table's clocks are a tick later.
+                        let mut after = before;
+                        for place in &mut after[1..=clocks] {
+                            *place = if reset {
+                                0
+                            } else {
+                                place.saturating_add(1).min(4001)
+                            };
+                        }
+                        after[7] = 4;
+                        let fits = clock > clocks || reading <= 4001;
+                        let known = if fits {
+                            Accepted(after)
+                        } else {
+                            Refused(17, 0)
+                        };
+                        self.named_scan(&bytes, before, 4, known);
+                    }
+                }
+            }
+        }
+        // Whatever a record's last counter is.
+        let bytes = table(1, &[vec![]]);
+        for counter in [0, 1, 4002, 65535] {
+            let before = record(1, &[0], counter);
+            self.named_scan(&bytes, before, counter, Accepted(before));
+            let before = record(1, &[4002], counter);
+            self.named_scan(&bytes, before, counter, Refused(17, 0));
+        }
+        // The second reading is of no clock.
+        let before = [1, 0, 9999, 65535, 4002, 0, 1, 0];
+        let after = [1, 0, 9999, 65535, 4002, 0, 1, 5];
+        self.named_scan(SAMPLES[0].bytes, before, 5, Accepted(after));
+    }
+
+    /// The table's faults, which come before the record's.
+    fn faults_known(&mut self) {
+        let step = |records: &[Vec<u8>]| table(2, &[records.to_vec()]);
+        let too_long = [step(&[]), vec![5; 4096]].concat();
+        let faults = [
+            (too_long, 1, 4096),
+            (vec![], 2, 0),
+            (vec![1], 2, 0),
+            (vec![1, 1, 2, 1, 3, 3], 2, 2),
+            (vec![1, 1, 4], 2, 3),
+            (vec![1, 1, 6], 3, 2),
+            (vec![4, 5], 4, 0),
+            (vec![1, 7, 4, 5], 4, 0),
+            (vec![1, 1, 1, 1, 4, 5], 4, 2),
+            (step(&vec![guard(1, AT_MOST, 1); 65]), 5, 322),
+            (step(&[guard(3, AT_MOST, 1)]), 6, 2),
+            (step(&[reset(1), reset(1)]), 16, 4),
+            (step(&[guard(1, 5, 1)]), 7, 2),
+            (step(&[guard(1, AT_MOST, 4001)]), 8, 2),
+            (table(1, &vec![vec![]; 17]), 9, 18),
+            (vec![1, 1, 5], 9, 2),
+            (vec![1, 1, 4, 5, 5], 10, 4),
+        ];
+        for (bytes, number, place) in faults {
+            let refused = Judged::Refused(number, place);
+            for running in [
+                record(1, &[0], 0),
+                record(0, &[0], 0),
+                record(17, &[0], 9),
+                record(1, &[4002; 6], 9),
+                record(65535, &[65535; 6], 65535),
+            ] {
+                self.named_scan(&bytes, running, 9, refused);
+                for lens in [[7, 4], [8, 3], [0, 0]] {
+                    self.scan(&bytes, running, 9, lens);
+                }
+            }
+        }
+    }
+
+    /// Rooms of all lengths that matter: of a scan that is accepted, turned away and refused, and of log-in.
+    fn scan_rooms_known(&mut self) {
+        let s1 = SAMPLES[0].bytes;
+        for running in 0..=12 {
+            for answer in 0..=7 {
+                for (step, counter) in [(1, 3), (1, 2), (2, 3)] {
+                    self.scan(s1, record(step, &[0], 0), counter, [running, answer]);
+                }
+            }
+            for counter in [0, 1, 4001, 65535] {
+                self.log_in(counter, running);
+            }
+        }
+    }
+
+    /// A shift: log-in and so many scans, at counters where a guard of the next step begins to hold or ends, and at some others.
+    fn shift(&mut self, bytes: &[u8], scans: usize) {
+        let Ok(table) = plain::Table::parse(bytes) else {
+            return;
+        };
+        let first = match self.random.within(0, 2) {
+            0 => 0,
+            1 => self.random.within(65000, 65535) as u16,
+            _ => self.random.next() as u16,
+        };
+        self.log_in(first, 8);
+        let mut running = record(1, &[], first);
+        for _ in 0..scans {
+            let counter = self.counter(&table, bytes, running);
+            let lens = match self.random.within(0, 9) {
+                0 => [self.random.within(0, 12), self.random.within(0, 7)],
+                _ => [8, 4],
+            };
+            running = self.scan(bytes, running, counter, lens);
+        }
+    }
+
+    /// A counter for a scan that matters, mostly for one that is accepted if there is one.
+    fn counter(&mut self, table: &plain::Table, bytes: &[u8], running: Record) -> u16 {
+        let step = usize::from(running[0] - 1);
+        let mut passed = vec![0, 1, 65535, self.random.within(0, 50) as u16];
+        passed.push(self.random.next() as u16);
+        for guard in table.guards_of(step) {
+            let reading = running[usize::from(guard.clock)];
+            let to = |constant: u16| constant.checked_sub(reading);
+            passed.extend(to(guard.constant + 1));
+            passed.extend(to(guard.constant));
+            passed.extend(to(guard.constant).and_then(|ticks| ticks.checked_sub(1)));
+        }
+        let turn = self.random.within(0, passed.len() - 1);
+        passed.rotate_left(turn);
+        let counters = passed.iter().map(|ticks| running[7].wrapping_add(*ticks));
+        let accepted = |counter: &u16| {
+            let (mut running, mut answer) = (running, [9; 4]);
+            scans::entries::scan(bytes, *counter, &mut running, &mut answer) && answer == [0; 4]
+        };
+        let any = self.random.one_in(3);
+        let found = counters.clone().find(|counter| any || accepted(counter));
+        found.unwrap_or(running[7].wrapping_add(passed[0]))
+    }
+
+    /// Any record with a table's bytes, at any counter.
+    fn any_scan(&mut self, bytes: &[u8]) {
+        let steps = plain::read(bytes).map_or(3, |c| c.steps);
+        let step = match self.random.within(0, 9) {
+            0 => [0, steps + 1, 65535, self.random.within(0, 65535)][self.random.within(0, 3)],
+            _ => self.random.within(1, steps),
+        };
+        let unfit = self.random.one_in(8);
+        let readings: [u16; 6] = std::array::from_fn(|_| match self.random.within(0, 4) {
+            0 => self.random.within(0, 4001) as u16,
+            1 => self.random.within(3998, 4001) as u16,
+            2 if unfit => [4002, 65535, self.random.next() as u16][self.random.within(0, 2)],
+            _ => self.random.within(0, 50) as u16,
+        });
+        let first = self.random.next() as u16;
+        let passed = match self.random.within(0, 3) {
+            0 => self.random.next() as u16,
+            1 => self.random.within(3990, 4010) as u16,
+            _ => self.random.within(0, 50) as u16,
+        };
+        let more = self.random.within(0, 3);
+        let running = record(step, &readings, first);
+        let counter = first.wrapping_add(passed);
+        self.scan(bytes, running, counter, [8 + more, 4 + more]);
+    }
+}
+
 /// What must occur: every refusal, and in both variants every kind of answer.
 fn kinds() -> impl Iterator<Item = String> {
-    let refusals = (1..=15).map(|number| format!("refusal {number:2}"));
+    let refusals = (1..=17).map(|number| format!("refusal {number:2}"));
     let answers = STARTS.into_iter().flat_map(|start| {
         [
             ("rounds", "without end"),
@@ -1175,11 +1741,22 @@ fn kinds() -> impl Iterator<Item = String> {
         "widest: one moment",
         "widest: none is closed",
     ];
-    refusals.chain(answers).chain(panel.map(String::from))
+    let scans = [
+        "log-in: answered",
+        "log-in: room too short",
+        "scan: accepted",
+        "scan: turned away",
+        "scan: refused",
+        "scan: a room too short",
+    ];
+    refusals
+        .chain(answers)
+        .chain(panel.map(String::from))
+        .chain(scans.map(String::from))
 }
 
 fn main() {
-    let (legal_tables, damaged_tables, panel_tables) = (4000, 4000, 6000);
+    let (legal_tables, damaged_tables, panel_tables, scan_tables) = (4000, 4000, 6000, 8000);
     let mut compare = Compare {
         random: Random(20),
         agreed: 0,
@@ -1217,8 +1794,27 @@ fn main() {
         compare.panel(&bytes, most as u64);
         compare.panel(&bytes, k as u64);
     }
+    compare.scans_of_samples();
+    compare.scans_known();
+    compare.relations_known();
+    compare.rounds_known();
+    compare.records_known();
+    compare.faults_known();
+    compare.scan_rooms_known();
+    for _ in 0..scan_tables {
+        let bytes = legal(&mut compare.random);
+        compare.shift(&bytes, 40);
+        for _ in 0..20 {
+            compare.any_scan(&bytes);
+        }
+        let bytes = damaged(&mut compare.random);
+        for _ in 0..5 {
+            compare.any_scan(&bytes);
+        }
+    }
     println!(
-        "{} samples and the limits, {legal_tables} legal tables, {damaged_tables} damaged ones, {panel_tables} for the panel",
+        "{} samples and the limits, {legal_tables} legal tables, {damaged_tables} damaged ones, {panel_tables} for the panel, \
+         {scan_tables} of both sorts for scans",
         SAMPLES.len()
     );
     for (what, number) in &compare.seen {

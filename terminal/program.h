@@ -55,6 +55,7 @@ static const char *reason(uint64_t refusal)
         "there is no step, an unfinished one or one too many", "bytes follow the end", "the number of rounds is 0 or too large",
         "the room for moments is too short", "the room for starts is too short", "the room for a loop is too short",
         "the room for demands is too short", "the clock is reset already in the same step",
+        "the running record fits no step of the table, or has a reading above 4,001",
     };
     return refusal < sizeof reasons / sizeof *reasons ? reasons[refusal] : "for an unknown reason";
 }

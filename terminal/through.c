@@ -1,7 +1,8 @@
-/* The entries, called as judge.h and panel.h declare them: compare.rs, trials.rs and bench.rs link this file and call the
+/* The entries, called as judge.h, panel.h and scan.h declare them: compare.rs, trials.rs and bench.rs link this file and call the
  * libraries through it. */
 #include "judge.h"
 #include "panel.h"
+#include "scan.h"
 
 bool through_read(const uint8_t *table, size_t table_len, uint64_t *answer, size_t answer_len)
 {
@@ -54,6 +55,17 @@ struct panel_widest_answer through_widest(const uint8_t *table, size_t table_len
     return panel_widest(table, table_len, k);
 }
 
+bool through_log_in(uint16_t counter, uint16_t *running, size_t running_len)
+{
+    return scan_log_in(counter, running, running_len);
+}
+
+bool through_scan(const uint8_t *table, size_t table_len, uint16_t counter, uint16_t *running, size_t running_len,
+                  uint64_t *answer, size_t answer_len)
+{
+    return scan_one(table, table_len, counter, running, running_len, answer, answer_len);
+}
+
 /* No argument and no result is converted on the way. */
 #define SAME(declared, ours) _Static_assert(_Generic(&declared, __typeof__(&ours): 1, default: 0), #declared)
 SAME(judge_read, through_read);
@@ -65,6 +77,8 @@ SAME(judge_demands, through_demands);
 SAME(judge_demands_mid_shift, through_demands_mid_shift);
 SAME(panel_windows, through_windows);
 SAME(panel_widest, through_widest);
+SAME(scan_log_in, through_log_in);
+SAME(scan_one, through_scan);
 
 /* The record as panel.rs has it: five places of eight bytes, in this order. */
 #define AT(field, number, type)                                                                            \

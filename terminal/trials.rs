@@ -1,7 +1,8 @@
 //! Holds the proved library's answers to "rounds" and "plan" against a search over clock readings: thousands of small random
 //! tables, each asked for its rounds, and for plans of 1 to 5 rounds, from log-in and in mid-shift. The search shares nothing with
 //! the library or plain.rs. Also holds the two variants against each other, in counts, plans and demands. The panel's windows, of
-//! rounds of few steps, are held against a search over all rows of moments.
+//! rounds of few steps, are held against a search over all rows of moments. And each scan of a shift is held against 01's rules of
+//! a run, by true times, which go on where the rail's counter starts again.
 //!
 //! Prints how many tables and answers there were of each kind, and the first tables on which the two differ, with the question
 //! and the difference. Exit status 1 where one differs.
@@ -11,6 +12,8 @@
 mod judge;
 #[path = "panel.rs"]
 mod panel;
+#[path = "scan.rs"]
+mod scan;
 
 use std::array::from_fn;
 
@@ -221,8 +224,8 @@ impl Table {
                 bytes.extend(&resets);
             }
             for guard in self.guards_of(step) {
-                let (clock, constant) = (guard.clock as u8 + 1, guard.constant as u8);
-                bytes.extend([2, clock, guard.relation as u8, constant, 0]);
+                let [low, high] = (guard.constant as u16).to_le_bytes();
+                bytes.extend([2, guard.clock as u8 + 1, guard.relation as u8, low, high]);
             }
             if order == Order::Twice && twice && !resets.is_empty() {
                 repeated.get_or_insert(bytes.len());
@@ -248,6 +251,18 @@ impl Table {
         };
         Table {
             guards: self.guards.iter().map(weak).collect(),
+            ..*self
+        }
+    }
+
+    /// The table with constants so many times as large, up to the largest that there may be.
+    fn stretched(&self, by: u64) -> Table {
+        let large = |guard: &Guard| Guard {
+            constant: (by * guard.constant).min(4000),
+            ..*guard
+        };
+        Table {
+            guards: self.guards.iter().map(large).collect(),
             ..*self
         }
     }
@@ -637,6 +652,61 @@ impl Table {
     }
 }
 
+// Shifts, by true times: whole ticks since log-in, where every clock reads 0. Scans are counted from 0.
+
+/// How many numbers the rail's counter has, the most scans of a shift, and how much larger the constants are in every other one.
+const CIRCLE: u64 = 65536;
+const SCANS: usize = 40;
+const STRETCH: u64 = 1333;
+
+impl Table {
+    /// The time of a clock's last reset at a scan before scan i; if there was none, that of log-in.
+    fn reset_time(&self, times: &[u64], clock: usize, i: usize) -> u64 {
+        let reset = (0..i).rev().find(|j| self.resets[j % self.steps][clock]);
+        reset.map_or(0, |j| times[j])
+    }
+
+    /// The number, from 1, of the first guard of scan i that does not hold, if there is one.
+    fn failing(&self, times: &[u64], i: usize) -> Option<usize> {
+        let reading = |clock: usize| times[i] - self.reset_time(times, clock, i);
+        let mut guards = self.guards_of(i % self.steps);
+        let place = guards.position(|guard| !guard.holds(1, reading(guard.clock)));
+        place.map(|place| place + 1)
+    }
+
+    /// Whether scans at these times are a run: times never decrease, and every guard of every scan holds.
+    fn keeps_rules(&self, times: &[u64]) -> bool {
+        times.is_sorted() && (0..times.len()).all(|i| self.failing(times, i).is_none())
+    }
+
+    /// A time for the next scan after some that were accepted, from `now` up to `end`. Mostly one at which a guard begins to hold
+    /// or ends, and of these mostly one at which all hold.
+    fn draw_time(&self, random: &mut Random, times: &[u64], now: u64, end: u64) -> u64 {
+        let i = times.len();
+        let turning: Vec<u64> = self
+            .guards_of(i % self.steps)
+            .flat_map(|guard| {
+                let exact = self.reset_time(times, guard.clock, i) + guard.constant;
+                [exact.saturating_sub(1), exact, exact + 1]
+            })
+            .filter(|time| (now..=end).contains(time))
+            .collect();
+        let all_hold = |time: &u64| self.failing(&[times, &[*time]].concat(), i).is_none();
+        let holding: Vec<u64> = turning.iter().copied().filter(all_hold).collect();
+        let later =
+            |random: &mut Random, n: u64| now + random.below(n.min(end - now + 1) as usize) as u64;
+        match random.below(16) {
+            0 => now,
+            1 => later(random, 8),
+            2 => later(random, CIRCLE),
+            3 => (end - random.below(3) as u64).max(now),
+            4..=6 if !turning.is_empty() => turning[random.below(turning.len())],
+            _ if !holding.is_empty() => holding[random.below(holding.len())],
+            _ => later(random, 5000),
+        }
+    }
+}
+
 // The questions, put beside the search. An error says which question and what differs.
 
 /// What every place of a room holds before it is lent.
@@ -748,6 +818,10 @@ fn refused_twice(bytes: &[u8], place: usize) -> Result<(), String> {
     if widest != [16, place as u64, 0] {
         return Err(format!("widest: {widest:?}, not 16 at {place}"));
     }
+    let mut running = [KEPT as u16; 8];
+    let mut answer = [KEPT; 4];
+    let told = scan::one(bytes, 1, &mut running, &mut answer);
+    same("scan", told, answer, running == [KEPT as u16; 8])?;
     Ok(())
 }
 
@@ -781,6 +855,23 @@ struct Tally {
     /// Panels held against all rows of moments, and the windows on them: absent, open, closed.
     panels: u64,
     windows: [u64; 3],
+    shifts: Shifts,
+}
+
+/// What was seen of shifts.
+#[derive(Default)]
+struct Shifts {
+    shifts: u64,
+    accepted: u64,
+    /// Scans turned away by the first guard of their step, and by a later one.
+    turned_away: [u64; 2],
+    /// Accepted scans after the first round.
+    later_rounds: u64,
+    /// Scans where the counter had started again since the last accepted one, or log-in.
+    started_again: u64,
+    /// Shifts of 65,536 ticks or more, and the longest.
+    long: u64,
+    longest: u64,
 }
 
 /// A table that is asked about in a variant: the count of its rounds, and of those without strict guards.
@@ -879,6 +970,68 @@ impl Tally {
             return Err(format!(
                 "widest for {k} rounds: {found:?}, but by the search {widest:?}"
             ));
+        }
+        Ok(())
+    }
+
+    /// A shift: log-in and scans, each beside the rules of a run by true times; and at its end all that were accepted.
+    fn shift(&mut self, table: &Table, random: &mut Random) -> Result<(), String> {
+        let bytes = table.bytes();
+        let seen = &mut self.shifts;
+        seen.shifts += 1;
+        let first = random.below(CIRCLE as usize) as u64;
+        let counter = |time: u64| ((first + time) % CIRCLE) as u16;
+        let mut running = [KEPT as u16; 8];
+        if !scan::log_in(counter(0), &mut running) || running != [1, 0, 0, 0, 0, 0, 0, counter(0)] {
+            return Err(format!("log-in at {first}: {running:?}"));
+        }
+        // The times of the accepted scans, and of the last scan.
+        let (mut times, mut now) = (Vec::new(), 0);
+        for _ in 0..SCANS {
+            // The last time at which the premise holds.
+            let end = times.last().map_or(0, |&time| time) + CIRCLE - 1;
+            now = table.draw_time(random, &times, now, end);
+            let before = running;
+            let mut answer = [KEPT; 4];
+            let told = scan::one(&bytes, counter(now), &mut running, &mut answer);
+            times.push(now);
+            let failing = table.failing(&times, times.len() - 1);
+            let expected = [0, failing.unwrap_or(0) as u64, 0, 0];
+            let record = match failing {
+                Some(_) => before,
+                None => from_fn(|place| match place {
+                    0 => (times.len() % table.steps + 1) as u16,
+                    7 => counter(now),
+                    clock if clock > table.clocks => 0,
+                    clock => {
+                        let reset = table.reset_time(&times, clock - 1, times.len());
+                        (now - reset).min(4001) as u16
+                    }
+                }),
+            };
+            if !told || answer != expected || running != record {
+                return Err(format!(
+                    "scan at {times:?} since log-in at {first}: {told} {answer:?}, record {running:?}, but by the rules of a run \
+                     {expected:?}, record {record:?}"
+                ));
+            }
+            seen.started_again += u64::from(counter(now) < before[7]);
+            if let Some(guard) = failing {
+                times.pop();
+                seen.turned_away[usize::from(guard > 1)] += 1;
+                if now == end {
+                    break;
+                }
+            } else {
+                seen.accepted += 1;
+                seen.later_rounds += u64::from(times.len() > table.steps);
+            }
+        }
+        let length = times.last().map_or(0, |&time| time);
+        seen.long += u64::from(length >= CIRCLE);
+        seen.longest = seen.longest.max(length);
+        if !table.keeps_rules(&times) {
+            return Err(format!("scans accepted at {times:?} are no run"));
         }
         Ok(())
     }
@@ -1049,12 +1202,20 @@ impl Tally {
         Ok(())
     }
 
+    /// A table put to all questions, and two shifts of it: the first difference.
+    fn all(&mut self, table: &Table, bytes: &[u8], times: &mut Random) -> Result<(), String> {
+        self.table(table, bytes)?;
+        self.shift(table, times)?;
+        self.shift(&table.stretched(STRETCH), times)
+            .map_err(|what| format!("with constants {STRETCH} times as large: {what}"))
+    }
+
     /// What came of a table. The first ten that differ are shown.
-    fn judged(&mut self, table: &Table) {
+    fn judged(&mut self, table: &Table, times: &mut Random) {
         let bytes = table.bytes();
         let number = self.tables;
         self.tables += 1;
-        if let Err(difference) = self.table(table, &bytes) {
+        if let Err(difference) = self.all(table, &bytes, times) {
             self.differ += 1;
             if self.differ <= 10 {
                 let hex: Vec<String> = bytes.iter().map(|b| format!("{b:02x}")).collect();
@@ -1106,15 +1267,28 @@ impl Tally {
         println!("panels beside all rows of moments: {}", self.panels);
         let [absent, open, closed] = self.windows;
         println!("  windows closed, open, absent: {closed} {open} {absent}");
+        let shifts = &self.shifts;
+        let [by_first, by_later] = shifts.turned_away;
+        println!("shifts by true times: {}", shifts.shifts);
+        println!("  scans accepted: {}", shifts.accepted);
+        println!("  of these after the first round: {}", shifts.later_rounds);
+        println!("  turned away by the first guard of the step: {by_first}");
+        println!("  by a later guard: {by_later}");
+        println!(
+            "  where the counter had started again: {}",
+            shifts.started_again
+        );
+        println!("  shifts of 65,536 ticks or more: {}", shifts.long);
+        println!("  ticks of the longest: {}", shifts.longest);
         println!("tables that differ: {}", self.differ);
     }
 }
 
 fn main() {
-    let mut random = Random(1);
+    let (mut random, mut times) = (Random(1), Random(2));
     let mut tally = Tally::default();
     for _ in 0..TABLES {
-        tally.judged(&Table::draw(&mut random));
+        tally.judged(&Table::draw(&mut random), &mut times);
     }
     tally.print();
     if tally.differ > 0 {

@@ -9,7 +9,7 @@ use lib.Dec.{leb}
 use borrow.Author.Tests.{leb-true, le-leb, lt-leb}
 use Rattle.table.specs.declared.Fault.{Fault}
 use Rattle.table.specs.declared.Fault.the-variants as fault
-use Rattle.format.specs.Shapes.{both}
+use Rattle.records.specs.Tests.{both}
 use Rattle.asking.specs.declared.Admission.{Admission}
 use Rattle.asking.specs.declared.Admission.the-variants as admission
 use Rattle.asking.specs.Admission.{refusedFor, need, inRange, admitOf}

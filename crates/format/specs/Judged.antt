@@ -14,6 +14,7 @@ use Rattle.records.specs.declared.Tally.{Tally}
 use Rattle.records.specs.declared.Verdict.{Verdict}
 use Rattle.records.specs.declared.Verdict.the-variants.{Refused, Next, Last}
 use Rattle.records.specs.Rules.{bodySize, need, within, isFree, marked, headed, guarded, cleared, finished, ended, relationOf}
+use Rattle.records.specs.Tests.{both}
 use Rattle.wire.specs.Records.{Record}
 use Rattle.wire.specs.Reading.{agree, byte, constantOf, wholeOf, judgeOf}
 use Rattle.wire.specs.Listing.{Entry, guard, reset, guardIn}
@@ -31,7 +32,6 @@ use Rattle.format.specs.Shapes.{
   entered,
   stepped,
   false-true,
-  both,
 }
 
 -- what a record was, by the verdict on it: any that is refused; the head; an entry; a finished step; the end

@@ -18,7 +18,8 @@ use Rattle.records.specs.declared.Verdict.the-variants.{Refused, Next, Last}
 use Rattle.records.specs.Rules.{bodySize, need, within, isFree, headed, guarded, cleared, finished, ended}
 use Rattle.wire.specs.Records.{Record}
 use Rattle.wire.specs.Reading.{agree, byte, constantOf, wholeOf, judgeOf}
-use Rattle.format.specs.Shapes.{false-true, both}
+use Rattle.records.specs.Tests.{both}
+use Rattle.format.specs.Shapes.{false-true}
 use Rattle.format.specs.Reach.{stands}
 
 -- the number of a fault that a record has by itself: one of a table's, but no cut and no tail

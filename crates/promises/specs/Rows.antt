@@ -30,6 +30,7 @@ number-some fault.Starts = omega arith
 number-some fault.Loop = omega arith
 number-some fault.List = omega arith
 number-some fault.Twice = omega arith
+number-some fault.Record = omega arith
 
 -- a refusal for a fault, with place 0
 abbrev pub atStart : Fault → Refusal

@@ -55,14 +55,14 @@ pub fn refuse(fault: Fault, place: usize) -> Verdict
 }
 
 // Whether a step does not reset a clock yet.
-fn is_free(pending: u32, clock: usize) -> bool
+pub fn is_free(pending: u32, clock: usize) -> bool
     ensures { λ r. ⌜ r ≡ isFree pending clock ⌝ }
 {
     (pending >> (clock % 32)) % 2 == 0
 }
 
 // What a step has, with a digit more.
-fn mark(pending: u32, digit: usize) -> u32
+pub fn mark(pending: u32, digit: usize) -> u32
     ensures { λ r. ⌜ r ≡ marked pending digit ⌝ }
 {
     pending | (1 << (digit % 32))

@@ -10,7 +10,7 @@ use Rattle.table.specs.declared.Table.{Table}
 use Rattle.table.specs.Step.{Step, Fair, FairGuard, stepAt, stepsFrom, stepsOf, Good}
 
 -- what stands at a place of a list is a member of it
-member-at : {A : Type 0} (l : List A) (i : ℕ) (d : A) → i < length l → List·Memᴰ (getD l i d) l
+pub member-at : {A : Type 0} (l : List A) (i : ℕ) (d : A) → i < length l → List·Memᴰ (getD l i d) l
 member-at [] i d b = absurd (omega arith)
 member-at (x ∷ l) zero d b = List·Memᴰ·head refl
 member-at (x ∷ l) (suc i) d b = List·Memᴰ·tail (member-at l i d (omega arith))

@@ -28,7 +28,7 @@ pub struct Table {
     pub resets: [bool; 119],
 }
 
-// Why a table, a number of rounds or a room is refused: 01's word for each, in the order of 01's numbers, 1 to 16.
+// Why a table, a number of rounds, a room or a running record is refused: 01's word for each, in the order of 01's numbers, 1 to 17.
 pub enum Fault {
     Length,
     Cut,
@@ -46,6 +46,7 @@ pub enum Fault {
     Loop,
     List,
     Twice,
+    Record,
 }
 
 // A refusal: why, and the byte's place.
@@ -85,5 +86,6 @@ pub fn number(fault: Fault) -> u64
         Fault::Loop => 14,
         Fault::List => 15,
         Fault::Twice => 16,
+        Fault::Record => 17,
     }
 }

@@ -2,3 +2,4 @@ pub mod Records
 pub mod Reading
 pub mod Listing
 pub mod Laws
+pub mod Begins

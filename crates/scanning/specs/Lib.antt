@@ -1,0 +1,4 @@
+pub mod Progress
+pub mod Ready
+pub mod Walked
+pub mod Judged
