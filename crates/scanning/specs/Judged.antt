@@ -1,5 +1,5 @@
 -- A scan, by what the records of the next step come to.
-use mathlib.Core.Path.{_≡_, refl, sym, ap, subst, _∙_}
+use mathlib.Core.Path.{_≡_, sym, ap, _∙_}
 use mathlib.Core.Bool.{Bool, true, false, cond, _&&_}
 use mathlib.Core.List.{List}
 use Prim.Native.Nat.{ℕ, zero, suc, _+_, _-_, _≤_, _<_}
@@ -43,23 +43,31 @@ decided-scanned bytes place n L counter r readings p begun old walk =
     es : List Entry
     es = entriesIn (recordsAt bytes place)
 
+    inside : r .step - 1 < L
+    inside = omega (arith, begun .first, begun .last)
+
+    step : due σ (r .step) ≡ stepOf es
+    step =
+        let same : r .step ≡ r .step - 1 + 1 = omega (arith, begun .first) in
+        ap (due σ) same ∙ begun .ready .step inside
+
     failing : p .failing ≡ firstFailing 0 (guardsOf es) readings
     failing = ap (λ (q : Progress). q .failing) walk ∙ walked-failing readings es
 
     same : firstFailing 0 (guardsOf es) readings ≡ firstFailing 0 (due σ (r .step) .guards) readings
-    same = ap (λ s. firstFailing 0 (s .guards) readings) (sym (begun .step))
+    same = ap (λ s. firstFailing 0 (s .guards) readings) (sym step)
 
     after : clearedBy (p .resets) readings ≡ cleared (due σ (r .step)) readings
     after =
-        ap (λ (q : Progress). clearedBy (q .resets) readings) walk ∙ walked-readings readings es (begun .legal)
-        ∙ ap (λ s. cleared s readings) (sym (begun .step))
+        ap (λ (q : Progress). clearedBy (q .resets) readings) walk ∙ walked-readings readings es (begun .ready .legal inside)
+        ∙ ap (λ s. cleared s readings) (sym step)
 
     go : (b : ℕ) → p .failing ≡ b → decidedBy p readings L r counter ≡ decided σ r counter readings b
     go zero e =
         rw (eq-eqb (p .failing) 0 e)
         (λ i. record {
           verdict = Accepted;
-          running = record { step = following (begun .steps i) (r .step); readings = after i; counter = counter };
+          running = record { step = following (begun .ready .steps i) (r .step); readings = after i; counter = counter };
         })
     go (suc b) e =
         rw (ne-eqb (p .failing) 0 (λ z. omega arith)) (ap (λ m. record { verdict = TurnedAway m; running = r }) e)
@@ -78,28 +86,8 @@ pub begun-at : (bytes : List ℕ) (place n L : ℕ) (r : Running) → Ready byte
     → Begun bytes place n L r
 unfolding fits
 begun-at bytes place n L r ready e =
-    record {
-      clocks = ready .clocks;
-      steps = ready .steps;
-      few = ready .few;
-      short = ready .short;
-      first = first;
-      last = last;
-      step = subst (λ i. due (cycleOf bytes) i ≡ stepOf (entriesIn (recordsAt bytes place))) same (ready .step (omega (arith, first, last)));
-      legal = ready .legal (omega (arith, first, last));
-    }
-  where
-    range : (leb 1 (r .step) ≡ true) × (leb (r .step) L ≡ true)
-    range = both _ _ (both _ _ e .0)
-
-    first : 1 ≤ r .step
-    first = leb-true _ _ (range .0)
-
-    last : r .step ≤ L
-    last = leb-true _ _ (range .1)
-
-    same : r .step - 1 + 1 ≡ r .step
-    same = omega (arith, first)
+    let range = both (leb 1 (r .step)) (leb (r .step) L) (both _ _ e .0) in
+    record { ready = ready; first = leb-true _ _ (range .0); last = leb-true _ _ (range .1) }
 
 module _ (bytes : List ℕ) (n L counter : ℕ) (r : Running) where
   pub judged-not : fits n L r ≡ false → refusedWith r (record { fault = fault.Record; place = 0 }) ≡ judgedBy bytes n L r counter

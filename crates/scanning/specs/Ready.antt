@@ -35,16 +35,11 @@ pub record Ready (bytes : List ℕ) (before place n L : ℕ) : Type 0 where
   pub step : before < L → due (cycleOf bytes) (before + 1) ≡ stepOf (entriesIn (recordsAt bytes place))
   pub legal : before < L → LegalEntries (entriesIn (recordsAt bytes place))
 
--- A record that the table can go on from, and the place where its next step begins.
+-- The step of a record is one of the table, and begins at a place.
 pub record Begun (bytes : List ℕ) (place n L : ℕ) (r : Running) : Type 0 where
-  pub clocks : n ≤ 6
-  pub steps : L ≡ length (cycleOf bytes)
-  pub few : L ≤ 16
-  pub short : length bytes ≤ 4096
+  pub ready : Ready bytes (r .step - 1) place n L
   pub first : 1 ≤ r .step
   pub last : r .step ≤ L
-  pub step : due (cycleOf bytes) (r .step) ≡ stepOf (entriesIn (recordsAt bytes place))
-  pub legal : LegalEntries (entriesIn (recordsAt bytes place))
 
 -- step i of the table, by its entries
 map-at : (ss : List (List Entry)) (i : ℕ) (d : Step) → i < length ss → getD (map stepOf ss) i d ≡ stepOf (getD ss i [])

@@ -2,6 +2,7 @@
 use mathlib.Core.Path.{ap, _∙_}
 use Rattle.scans.specs.Scan.{aged}
 use Rattle.scanning.specs.Judged.{decided-scanned}
+use native.Mathlib.Omega.{arith}
 use borrow.Author.Needs.{needs}
 use Rattle.scanning.proofs.judge.Statement.{statement}
 use Rattle.scanning.proofs.judge.Tie as tie
@@ -13,10 +14,10 @@ age-requires : tie.Need-age-requires
 age-requires c κs = search needs
 
 walk-requires : tie.Need-walk-requires
-walk-requires c κs = (c .before .before .before .before .before .pre .short, c .before .before .before .before .before .pre .legal)
+walk-requires c κs = let begun = c .before .before .before .before .before .pre in (begun .ready .short, begun .ready .legal (omega (arith, begun .first, begun .last)))
 
 decide-requires : tie.Need-decide-requires
-decide-requires c κs = (c .before .before .before .before .before .before .pre .last, c .before .before .before .before .before .before .pre .few)
+decide-requires c κs = (c .before .before .before .before .before .before .pre .last, c .before .before .before .before .before .before .pre .ready .few)
 
 returns : tie.Need-returns
 returns c =
