@@ -45,21 +45,12 @@ asked-room row room h l = λ i. row-long row h i && short room l i
 pub asked-both : (row room : List ℕ) → 8 ≤ length row → 4 ≤ length room → true ≡ asked row room
 asked-both row room h l = λ i. row-long row h i && roomy-yes room l i
 
-module _ (bytes : List ℕ) (counter : ℕ) (row room : List ℕ) where
-  -- what is kept, and what is left
-  pub running-kept : false ≡ asked row room → row ≡ runningAfter bytes counter row room
+-- both rooms at exit, by whether they are long enough
+module _ (bytes : List ℕ) (counter : ℕ) (row room : List ℕ) (b : Bool) (e : b ≡ asked row room) where
+  pub running-left : cond b (withRecord row (scanIn bytes counter row .running)) row ≡ runningAfter bytes counter row room
   unfolding runningAfter
-  running-kept e = ap (λ b. cond b (withRecord row (scanIn bytes counter row .running)) row) e
+  running-left = ap (λ b. cond b (withRecord row (scanIn bytes counter row .running)) row) e
 
-  pub answer-kept : false ≡ asked row room → room ≡ answerAfter bytes counter row room
+  pub answer-left : cond b (answered room (verdictNumbers (scanIn bytes counter row .verdict))) room ≡ answerAfter bytes counter row room
   unfolding answerAfter
-  answer-kept e = ap (λ b. cond b (answered room (verdictNumbers (scanIn bytes counter row .verdict))) room) e
-
-  pub running-is : true ≡ asked row room → withRecord row (scanIn bytes counter row .running) ≡ runningAfter bytes counter row room
-  unfolding runningAfter
-  running-is e = ap (λ b. cond b (withRecord row (scanIn bytes counter row .running)) row) e
-
-  pub answer-is : true ≡ asked row room
-      → answered room (verdictNumbers (scanIn bytes counter row .verdict)) ≡ answerAfter bytes counter row room
-  unfolding answerAfter
-  answer-is e = ap (λ b. cond b (answered room (verdictNumbers (scanIn bytes counter row .verdict))) room) e
+  answer-left = ap (λ b. cond b (answered room (verdictNumbers (scanIn bytes counter row .verdict))) room) e

@@ -29,7 +29,7 @@ fn verdict_numbers(verdict: Verdict) -> [u64; 4]
 }
 
 // The record that a row holds.
-fn take_record(row: &[u16]) -> Running
+fn record_in(row: &[u16]) -> Running
     requires { ⌜ 8 ≤ length (now row) ⌝ }
     ensures { λ r. ⌜ r ≡ recordIn (now (row .entry)) ⌝ }
 {
@@ -89,7 +89,7 @@ pub extern "C" fn scan_one(
     if answer.len() < PLACES {
         return false;
     }
-    let record = take_record(running);
+    let record = record_in(running);
     let scanned = scanning::scan(table, record, counter);
     let verdict = scanned.verdict;
     let after = scanned.running;

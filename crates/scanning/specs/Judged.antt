@@ -1,12 +1,10 @@
 -- A scan, by what the records of the next step come to.
 use mathlib.Core.Path.{_≡_, sym, ap, _∙_}
-use mathlib.Core.Bool.{Bool, true, false, cond, _&&_}
+use mathlib.Core.Bool.{true, false}
 use mathlib.Core.List.{List}
-use Prim.Native.Nat.{ℕ, zero, suc, _+_, _-_, _≤_, _<_}
+use Prim.Native.Nat.{ℕ, zero, suc, _+_, _-_, _<_}
 use native.Mathlib.Omega.{arith}
-use lib.Dec.{eqb, leb}
-use lib.ListN.{length}
-use borrow.Author.Tests.{leb-true, eq-eqb, ne-eqb}
+use borrow.Author.Tests.{eq-eqb, ne-eqb}
 use Rattle.table.specs.Step.{Step}
 use Rattle.table.specs.declared.Fault.the-variants as fault
 use Rattle.table.specs.declared.Read.the-variants as read
@@ -15,12 +13,12 @@ use Rattle.wire.specs.Records.{recordsAt}
 use Rattle.wire.specs.Reading.{readOf}
 use Rattle.wire.specs.Listing.{Entry, guardsOf, stepOf}
 use Rattle.wire.specs.Begins.{entriesIn}
-use Rattle.records.specs.Tests.{both}
 use Rattle.asking.specs.Rounds.{cycleOf}
 use Rattle.ticks.specs.Ticks.{elapsedOf}
 use Rattle.scans.specs.declared.Running.{Running}
 use Rattle.scans.specs.declared.Verdict.the-variants.{Accepted, TurnedAway}
-use Rattle.scans.specs.Scan.{aged, firstFailing, cleared, following, due, decided, scanned, heldAll, fits}
+use Rattle.scans.specs.Scan.{aged, firstFailing, cleared, following, due, decided, scanned, fits}
+use Rattle.scans.specs.Held.{fits-step}
 use Rattle.scans.specs.Answer.{refusedWith, judgedBy, answeredBy, scanOf}
 use Rattle.scanning.specs.declared.Progress.{Progress}
 use Rattle.scanning.specs.Progress.{started, walked, clearedBy, decidedBy}
@@ -74,20 +72,9 @@ decided-scanned bytes place n L counter r readings p begun old walk =
 
 -- ---- records that the table can go on from
 
-pub fits-not : (n L : ℕ) (r : Running) → (leb 1 (r .step) && leb (r .step) L) ≡ false → false ≡ fits n L r
-unfolding fits
-fits-not n L r e = sym (ap (λ b. b && heldAll n (r .readings)) e)
-
-pub fits-held : (n L : ℕ) (r : Running) → (leb 1 (r .step) && leb (r .step) L) ≡ true → heldAll n (r .readings) ≡ fits n L r
-unfolding fits
-fits-held n L r e = sym (ap (λ b. b && heldAll n (r .readings)) e)
-
 pub begun-at : (bytes : List ℕ) (place n L : ℕ) (r : Running) → Ready bytes (r .step - 1) place n L → fits n L r ≡ true
     → Begun bytes place n L r
-unfolding fits
-begun-at bytes place n L r ready e =
-    let range = both (leb 1 (r .step)) (leb (r .step) L) (both _ _ e .0) in
-    record { ready = ready; first = leb-true _ _ (range .0); last = leb-true _ _ (range .1) }
+begun-at bytes place n L r ready e = let range = fits-step n L r e in record { ready = ready; first = range .0; last = range .1 }
 
 module _ (bytes : List ℕ) (n L counter : ℕ) (r : Running) where
   pub judged-not : fits n L r ≡ false → refusedWith r (record { fault = fault.Record; place = 0 }) ≡ judgedBy bytes n L r counter

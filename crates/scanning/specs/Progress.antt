@@ -38,7 +38,7 @@ abbrev pub taken : List ℕ → Progress → Entry → Progress
 taken readings p (guard g) = guardTaken readings p g
 taken readings p (reset j) = resetTaken p j
 
--- of all
+-- all entries of a step, one after the other
 unfoldable pub walked : List ℕ → Progress → List Entry → Progress
 walked readings p [] = p
 walked readings p (e ∷ es) = walked readings (taken readings p e) es

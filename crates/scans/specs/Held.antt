@@ -1,4 +1,4 @@
--- Laws of readings that are held, one after the other.
+-- Laws of readings that are held, one after the other, and of records that a table can go on from.
 use mathlib.Core.Path.{_≡_, refl, sym, ap, _∙_}
 use mathlib.Core.Bool.{Bool, true, false, _&&_, and-false}
 use mathlib.Core.List.{List}
@@ -8,8 +8,10 @@ use native.Mathlib.Decide.{ℕ-discrete}
 use native.Mathlib.Numerals.{add-one}
 use lib.Dec.{leb}
 use lib.ListN.{getD}
-use borrow.Author.Tests.{le-leb, lt-leb}
-use Rattle.scans.specs.Scan.{heldAll}
+use borrow.Author.Tests.{le-leb, lt-leb, leb-true}
+use Rattle.records.specs.Tests.{both}
+use Rattle.scans.specs.declared.Running.{Running}
+use Rattle.scans.specs.Scan.{heldAll, fits}
 
 pub held-none : (r : List ℕ) → heldAll 0 r ≡ true
 unfolding heldAll
@@ -31,3 +33,27 @@ held-not (suc n) i r l h = go (held-not n i r) (ℕ-discrete i n)
 
 pub held-count : (n i : ℕ) (r : List ℕ) → i ≤ n → n ≤ i → heldAll i r ≡ true → true ≡ heldAll n r
 held-count n i r l h e = let same : i ≡ n = omega arith in sym e ∙ ap (λ m. heldAll m r) same
+
+-- all are
+held-each : (n : ℕ) (r : List ℕ) → ((i : ℕ) → i < n → getD r i 0 ≤ 4001) → heldAll n r ≡ true
+unfolding heldAll
+held-each zero r h = refl
+held-each (suc n) r h = rw (held-each n r (λ i l. h i (omega arith)), le-leb (getD r n 0) 4001 (h n (omega arith)))
+
+-- ---- a table of n clocks and L steps, and a record
+
+module _ (n L : ℕ) (r : Running) where
+  -- the test of the step, and then that of the readings
+  pub fits-by : (b : Bool) → (leb 1 (r .step) && leb (r .step) L) ≡ b → (b && heldAll n (r .readings)) ≡ fits n L r
+  unfolding fits
+  fits-by b e = sym (ap (λ b. b && heldAll n (r .readings)) e)
+
+  -- a step of the table's own and held readings are enough
+  pub fits-true : 1 ≤ r .step → r .step ≤ L → ((i : ℕ) → i < n → getD (r .readings) i 0 ≤ 4001) → fits n L r ≡ true
+  unfolding fits
+  fits-true a b h = rw (le-leb 1 (r .step) a, le-leb (r .step) L b, held-each n (r .readings) h)
+
+  -- and the step is one where it can go on
+  pub fits-step : fits n L r ≡ true → (1 ≤ r .step) × (r .step ≤ L)
+  unfolding fits
+  fits-step e = let range = both (leb 1 (r .step)) (leb (r .step) L) (both _ _ e .0) in (leb-true _ _ (range .0), leb-true _ _ (range .1))

@@ -24,7 +24,7 @@ logIn counter = record { step = 1; readings = replicate 6 0; counter = counter }
 unfoldable pub aged : ℕ → ℕ → List ℕ → List ℕ
 aged n ticks r = tab (λ i. cond (ltb i n) (laterOf (getD r i 0) ticks) (getD r i 0)) 6
 
--- a guard (01: bound) holds
+-- whether a reading stands to a constant as a relation says, and so whether a guard (01: bound) holds
 abbrev pub compares : Relation → ℕ → ℕ → Bool
 compares Under constant reading = ltb reading constant
 compares AtMost constant reading = leb reading constant

@@ -1,4 +1,4 @@
--- Guards tested on held readings, and records that a table can go on from.
+-- Guards tested on held readings.
 use mathlib.Core.Path.{_≡_, refl, sym, _∙_}
 use mathlib.Core.Logic.{_↔_}
 use mathlib.Core.Bool.{Bool, true, false, false≢true}
@@ -16,7 +16,7 @@ use Rattle.ticks.specs.Ticks.{held, laterOf}
 use Rattle.runs.specs.Run.{Compares}
 use Rattle.runs.specs.Tools.{Every, every-nil, every-cons}
 use Rattle.scans.specs.declared.Running.{Running}
-use Rattle.scans.specs.Scan.{aged, compares, holds, firstFailing, cleared, heldAll, fits}
+use Rattle.scans.specs.Scan.{aged, compares, holds, firstFailing, cleared}
 use Rattle.shifts.specs.Sound.{First, here, later}
 
 -- ---- readings
@@ -109,16 +109,3 @@ module _ (Q : Guard → Type 0) (r : List ℕ) where
   first-failing t (later {m = m} {b = b} {g = g} {gs = gs} q f) =
       let rest = first-failing (tells-tail g gs t) f in
       (rest .0, failing-later r m g gs (tells-head g gs t .1 q) ∙ rest .1)
-
--- ---- records
--- the readings of n clocks are held
-held-all : (n : ℕ) (r : List ℕ) → ((i : ℕ) → i < n → getD r i 0 ≤ 4001) → heldAll n r ≡ true
-unfolding heldAll
-held-all zero r h = refl
-held-all (suc n) r h = rw (held-all n r (λ i l. h i (omega arith)), le-leb (getD r n 0) 4001 (h n (omega arith)))
-
--- the table can go on from a record with a step of its own and held readings
-pub fits-true : (n L : ℕ) (r : Running) → 1 ≤ r .step → r .step ≤ L → ((i : ℕ) → i < n → getD (r .readings) i 0 ≤ 4001)
-    → fits n L r ≡ true
-unfolding fits
-fits-true n L r a b h = rw (le-leb 1 (r .step) a, le-leb (r .step) L b, held-all n (r .readings) h)

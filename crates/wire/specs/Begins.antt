@@ -7,8 +7,7 @@ use native.Mathlib.Omega.{arith}
 use lib.Dec.{eqb, ltb, leb}
 use lib.ListN.{length, getD, drop, length-drop}
 use lib.Seq.{drop-drop}
-use borrow.Author.Tests.{eqb-true, eqb-false}
-use Rattle.table.specs.declared.Read.{Read}
+use borrow.Author.Tests.{eqb-true, eqb-false, eq-eqb}
 use Rattle.table.specs.declared.Read.the-variants as read
 use Rattle.records.specs.declared.Tally.{Tally}
 use Rattle.records.specs.declared.Verdict.{Verdict}
@@ -18,7 +17,7 @@ use Rattle.table.specs.declared.Fault.the-variants as fault
 use Rattle.table.specs.declared.Refusal.{Refusal}
 use Rattle.records.specs.Tests.{both}
 use Rattle.records.specs.Rules.{need, within, isFree, bodySize, headed, guarded, cleared, finished, ended}
-use Rattle.wire.specs.Records.{Record, recordAt, recordsFrom, records, recordsAt, records-next}
+use Rattle.wire.specs.Records.{Record, recordAt, recordsAt, records-next}
 use Rattle.wire.specs.Reading.{agree, byte, constantOf, wholeOf, judgeOf, readOf}
 use Rattle.wire.specs.declared.Located.{Located}
 use Rattle.wire.specs.Listing.{Entry, guard, reset, guardIn, Content, head, entry, finish, close, contentOf, stepsIn, listing}
@@ -78,13 +77,14 @@ entries-by r rs = go (contentOf r)
     go finish = refl
     go close = refl
 
+-- what equal lists tell
 cons-head : {a b : List Entry} {ss rr : List (List Entry)} → a ∷ ss ≡ b ∷ rr → a ≡ b
 cons-head e = cc
 
 nil-cons : {A : Type 0} {a : List Entry} {ss : List (List Entry)} → [] ≡ a ∷ ss → A
 nil-cons e = let z : _≡_ {A = ℕ} 0 1 = cc in absurd (omega arith)
 
--- They are those of the first step that the records finish, after what it has begun with.
+-- The entries of the step under way are those of the first step that the records finish, after what it has begun with.
 pub first-step : (begun : List Entry) (rs : List Record) (s : List Entry) (ss : List (List Entry))
     → stepsIn begun rs ≡ s ∷ ss → s ≡ begun ++ entriesIn rs
 unfolding stepsIn
@@ -154,21 +154,39 @@ judge-told t r =
     (need-told t (agree (eqb (r .place) 0) (eqb (r .kind) 1)) _ _ _
     (need-told t (leb (bodySize (r .kind)) (length (r .body))) _ _ _ (whole-told t r)))
 
+-- the kind of a record, by its content
+abbrev kindOf : Content → ℕ
+kindOf (head n) = 1
+kindOf (entry (guard g)) = 2
+kindOf (entry (reset j)) = 3
+kindOf finish = 4
+kindOf close = 5
+
+kind-is : (r : Record) → (contentOf r ≡ close → ⊥) → r .kind ≡ kindOf (contentOf r)
+kind-is r =
+    go (eqb (r .kind) 1) (eqb (r .kind) 2) (eqb (r .kind) 3) (eqb (r .kind) 4)
+    (eqb-true (r .kind) 1) (eqb-true (r .kind) 2) (eqb-true (r .kind) 3) (eqb-true (r .kind) 4)
+  where
+    content : Bool → Bool → Bool → Bool → Content
+    content a b c d =
+        cond a (head (byte r 0)) (cond b (entry (guard (guardIn r))) (cond c (entry (reset (byte r 0))) (cond d finish close)))
+
+    go : (a b c d : Bool) → (a ≡ true → r .kind ≡ 1) → (b ≡ true → r .kind ≡ 2) → (c ≡ true → r .kind ≡ 3) → (d ≡ true → r .kind ≡ 4)
+        → (content a b c d ≡ close → ⊥) → r .kind ≡ kindOf (content a b c d)
+    go true b c d one two three four q = one refl
+    go false true c d one two three four q = two refl
+    go false false true d one two three four q = three refl
+    go false false false true one two three four q = four refl
+    go false false false false one two three four q = absurd (q refl)
+
 -- a head that is taken stands first
 head-first : (t u : Tally) (r : Record) → judgeOf t r ≡ Next u → (n : ℕ) → contentOf r ≡ head n → r .place ≡ 0
 unfolding judgeOf
 head-first t u r e n c =
-    eqb-true (r .place) 0
-    (go (within 1 (r .kind) 5) (eqb (r .place) 0) (eqb (r .kind) 1) (is-head (eqb (r .kind) 1) (eqb (r .kind) 2) (eqb (r .kind) 3) (eqb (r .kind) 4) c) e)
+    eqb-true (r .place) 0 (go (within 1 (r .kind) 5) (eqb (r .place) 0) (eqb (r .kind) 1) (eq-eqb (r .kind) 1 (kind-is r other ∙ ap kindOf c)) e)
   where
-    is-head : (a b c d : Bool)
-        → cond a (head (byte r 0)) (cond b (entry (guard (guardIn r))) (cond c (entry (reset (byte r 0))) (cond d finish close))) ≡ head n
-        → a ≡ true
-    is-head true b c d e = refl
-    is-head false true c d e = let z : _≡_ {A = ℕ} 0 1 = cc in absurd (omega arith)
-    is-head false false true d e = let z : _≡_ {A = ℕ} 0 1 = cc in absurd (omega arith)
-    is-head false false false true e = let z : _≡_ {A = ℕ} 0 1 = cc in absurd (omega arith)
-    is-head false false false false e = let z : _≡_ {A = ℕ} 0 1 = cc in absurd (omega arith)
+    other : contentOf r ≡ close → ⊥
+    other q = let z : _≡_ {A = ℕ} 0 1 = cc in omega arith
 
     go : (w a b : Bool) → b ≡ true
         → need w fault.Kind (r .place)
@@ -180,24 +198,19 @@ head-first t u r e n c =
     go false false true q e = let z : _≡_ {A = ℕ} 0 1 = cc in absurd (omega arith)
     go w false false q e = absurd (false≢true q)
 
+-- a record of another kind than 4 finishes no step
+not-finish : (r : Record) → eqb (r .kind) 4 ≡ false → contentOf r ≡ finish → ⊥
+not-finish r e q = eqb-false (r .kind) 4 e (kind-is r other ∙ ap kindOf q)
+  where
+    other : contentOf r ≡ close → ⊥
+    other c = let z : _≡_ {A = ℕ} 0 1 = cc in omega arith
+
 -- the steps after the one under way, by the content of a record and the steps that follow it
 abbrev passed : Content → List (List Entry) → List (List Entry)
 passed (head n) ss = drop 1 ss
 passed (entry e) ss = drop 1 ss
 passed finish ss = ss
 passed close ss = drop 1 ss
-
--- a record of another kind finishes no step
-not-finish : (r : Record) → eqb (r .kind) 4 ≡ false → contentOf r ≡ finish → ⊥
-not-finish r e q = go (eqb (r .kind) 1) (eqb (r .kind) 2) (eqb (r .kind) 3) (eqb (r .kind) 4) e q
-  where
-    go : (a b c d : Bool) → d ≡ false
-        → cond a (head (byte r 0)) (cond b (entry (guard (guardIn r))) (cond c (entry (reset (byte r 0))) (cond d finish close))) ≡ finish → ⊥
-    go true b c d e q = let z : _≡_ {A = ℕ} 0 1 = cc in omega arith
-    go false true c d e q = let z : _≡_ {A = ℕ} 0 1 = cc in omega arith
-    go false false true d e q = let z : _≡_ {A = ℕ} 0 1 = cc in omega arith
-    go false false false true e q = false≢true (sym e)
-    go false false false false e q = let z : _≡_ {A = ℕ} 0 1 = cc in omega arith
 
 -- the finished steps of a verdict
 abbrev stepsAfter : Verdict → ℕ

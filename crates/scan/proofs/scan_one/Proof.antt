@@ -1,9 +1,10 @@
 -- Short rooms are kept; else the record that the row holds is scanned and put back, and the verdict is told.
 use mathlib.Core.Path.{ap, _∙_}
+use mathlib.Core.Bool.{true, false}
 use Rattle.answers.specs.Answered.{answered}
 use Rattle.scans.specs.Answer.{scanOf}
 use Rattle.scan.specs.Row.{withRecord}
-use Rattle.scan.specs.Told.{verdictNumbers, asked-row, asked-room, asked-both, running-kept, answer-kept, running-is, answer-is}
+use Rattle.scan.specs.Told.{verdictNumbers, asked-row, asked-room, asked-both, running-left, answer-left}
 use native.Mathlib.Omega.{arith}
 use borrow.Author.Needs.{needs}
 use Rattle.scan.proofs.scan_one.Statement.{statement}
@@ -13,16 +14,16 @@ returns : tie.Need-returns
 returns c =
     let a = c .before .before .before .before .args in
     let few = asked-row (a .running .now) (a .answer .now) (c .if1 .taken) in
-    (few, running-kept (a .table .now) (a .counter) (a .running .now) (a .answer .now) few, answer-kept (a .table .now) (a .counter) (a .running .now) (a .answer .now) few)
+    (few, running-left (a .table .now) (a .counter) (a .running .now) (a .answer .now) false few, answer-left (a .table .now) (a .counter) (a .running .now) (a .answer .now) false few)
 
 returns-2 : tie.Need-returns-2
 returns-2 c =
     let a = c .before .before .before .before .before .args in
     let few = asked-room (a .running .now) (a .answer .now) (c .before .if1 .left) (c .if2 .taken) in
-    (few, running-kept (a .table .now) (a .counter) (a .running .now) (a .answer .now) few, answer-kept (a .table .now) (a .counter) (a .running .now) (a .answer .now) few)
+    (few, running-left (a .table .now) (a .counter) (a .running .now) (a .answer .now) false few, answer-left (a .table .now) (a .counter) (a .running .now) (a .answer .now) false few)
 
-take-record-requires : tie.Need-take-record-requires
-take-record-requires c κs = search needs
+record-in-requires : tie.Need-record-in-requires
+record-in-requires c κs = search needs
 
 scan-requires : tie.Need-scan-requires
 scan-requires c κs = search needs
@@ -46,11 +47,11 @@ returns-3 : tie.Need-returns-3
 returns-3 c =
     let a = c .before .before .before .before .before .before .before .before .before .before .before .before .before .before .before .before .before .before .args in
     let both = asked-both (a .running .now) (a .answer .now) (c .before .before .before .before .before .before .before .before .before .before .before .before .before .before .if1 .left) (c .before .before .before .before .before .before .before .before .before .before .before .before .before .if2 .left) in
-    let is = c .before .before .before .before .before .before .before .before .before .before .scan .ensures ∙ ap (λ r. scanOf (a .table .now) r (a .counter)) (c .before .before .before .before .before .before .before .before .before .before .before .take-record .ensures) in (
+    let is = c .before .before .before .before .before .before .before .before .before .before .scan .ensures ∙ ap (λ r. scanOf (a .table .now) r (a .counter)) (c .before .before .before .before .before .before .before .before .before .before .before .record-in .ensures) in (
       both,
-      c .before .before .before .before .before .before .before .put-record .ensures ∙ ap (λ s. withRecord (a .running .now) (s .running)) is ∙ running-is (a .table .now) (a .counter) (a .running .now) (a .answer .now) both,
+      c .before .before .before .before .before .before .before .put-record .ensures ∙ ap (λ s. withRecord (a .running .now) (s .running)) is ∙ running-left (a .table .now) (a .counter) (a .running .now) (a .answer .now) true both,
       c .before .before .put .ensures ∙ ap (answered (a .answer .now)) (c .before .before .before .verdict-numbers .ensures ∙ ap (λ s. verdictNumbers (s .verdict)) is)
-          ∙ answer-is (a .table .now) (a .counter) (a .running .now) (a .answer .now) both,
+          ∙ answer-left (a .table .now) (a .counter) (a .running .now) (a .answer .now) true both,
     )
 
 pub scan-one-spec : {M : Type 1} → statement M
@@ -59,7 +60,7 @@ scan-one-spec =
     (tie.spec
     returns
     returns-2
-    take-record-requires
+    record-in-requires
     scan-requires
     put-record-requires
     verdict-numbers-requires

@@ -1,9 +1,9 @@
--- `scan::take_record` meets its contract: its readings are read one by one.
+-- `scan::record_in` meets its contract: its readings are read one by one.
 use mathlib.Core.Path.{refl}
 use Rattle.basics.specs.Tab.{tab}
 use borrow.Author.Needs.{needs}
-use Rattle.scan.proofs.take_record.Statement.{statement}
-use Rattle.scan.proofs.take_record.Tie as tie
+use Rattle.scan.proofs.record_in.Statement.{statement}
+use Rattle.scan.proofs.record_in.Tie as tie
 
 shared-slice-read-t4 : tie.Need-shared-slice-read-t4
 shared-slice-read-t4 c = search needs
@@ -33,8 +33,8 @@ returns : tie.Need-returns
 unfolding tab
 returns c = refl
 
-pub take-record-spec : {M : Type 1} → statement M
-take-record-spec =
+pub record-in-spec : {M : Type 1} → statement M
+record-in-spec =
     tie.close
     (tie.spec
     shared-slice-read-t4
