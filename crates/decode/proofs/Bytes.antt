@@ -1,7 +1,7 @@
 -- What a record puts in, by its bytes.
 use mathlib.Core.Path.{_≡_, sym, _∙_, ap}
 use mathlib.Core.List.{List}
-use Prim.Native.Nat.{ℕ, _+_, _*_, _<_}
+use Prim.Native.Nat.{ℕ, _+_}
 use native.Mathlib.Omega.{arith}
 use lib.ListN.{getD, drop}
 use lib.Dec.{lit<}
@@ -9,26 +9,10 @@ use borrow.Author.Tests.{ne-eqb}
 use Rattle.table.specs.declared.Guard.{Guard}
 use Rattle.table.specs.declared.Table.{Table}
 use Rattle.wire.specs.Records.{recordAt}
-use Rattle.wire.specs.Reading.{byte}
-use Rattle.records.specs.Rules.{relationOf}
 use Rattle.wire.specs.Listing.{guardIn}
 use Rattle.wire.specs.Laws.{byte-is}
 use Rattle.filling.specs.Filling.{putHead, putGuard, putReset, putStep}
 use Rattle.decode.specs.Fill.{put}
-
--- a guard, by its bytes
-pub guard-in : (bytes : List ℕ) (at clock relation low high : ℕ) → clock ≡ getD bytes (at + 1) 0 → relation ≡ getD bytes (at + 2) 0
-    → low ≡ getD bytes (at + 3) 0 → high ≡ getD bytes (at + 4) 0
-    → _≡_ {A = Guard} (record { clock = clock; relation = relationOf relation; constant = low + high * 256 }) (guardIn (recordAt at 2 (drop (at + 1) bytes)))
-guard-in bytes at clock relation low high e₁ e₂ e₃ e₄ = λ j.
-    record {
-      clock = (e₁ ∙ of 0 (lit< tt) (at + 1) (omega arith)) j;
-      relation = relationOf ((e₂ ∙ of 1 (lit< tt) (at + 2) (omega arith)) j);
-      constant = (e₃ ∙ of 2 (lit< tt) (at + 3) (omega arith)) j + (e₄ ∙ of 3 (lit< tt) (at + 4) (omega arith)) j * 256;
-    }
-  where
-    of : (i : ℕ) → i < 4 → (n : ℕ) → n ≡ at + 1 + i → getD bytes n 0 ≡ byte (recordAt at 2 (drop (at + 1) bytes)) i
-    of i = byte-is bytes at 2 i
 
 -- what the record of each kind puts in
 module _ (bytes : List ℕ) (at : ℕ) (t : Table) where

@@ -21,7 +21,7 @@ ghost use Rattle.filling.specs.Filling.{empty};
 ghost use Rattle.decode.specs.Fill.{put, filled, tableOf};
 
 // The guard whose record begins at a place.
-pub fn guard_at(bytes: &[u8], at: usize) -> Guard
+fn guard_at(bytes: &[u8], at: usize) -> Guard
     requires { ⌜ at ≤ 4096 ⌝ }
     ensures { λ r. ⌜ r ≡ guardIn (recordAt at 2 (drop (at + 1) (now (bytes .entry)))) ⌝ }
 {

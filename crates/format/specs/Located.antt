@@ -2,9 +2,9 @@
 use mathlib.Core.Path.{_≡_, refl, sym, _∙_, ap, subst}
 use mathlib.Core.Logic.{⊎-elim}
 use mathlib.Core.List.{List, [], _∷_, _++_, List·Memᴰ, List·Memᴰ·cases-cons, List·Memᴰ·not-nil}
-use Prim.Native.Nat.{ℕ, zero, suc, _+_, _≤_, _<_}
+use Prim.Native.Nat.{ℕ, zero, suc, _+_, _≤_}
 use native.Mathlib.Omega.{arith}
-use lib.ListN.{length, getD, take, drop, length-take, take-append-drop}
+use lib.ListN.{length, take, drop, length-take, take-append-drop}
 use Rattle.records.specs.Rules.{bodySize}
 use Rattle.wire.specs.Records.{Bytes, Record, recordAt, recordsFrom}
 
@@ -35,24 +35,25 @@ bytes-take (suc n) [] h i = omega arith
 bytes-take (suc n) (b ∷ bs) h zero = h 0
 bytes-take (suc n) (b ∷ bs) h (suc i) = bytes-take n bs (λ j. h (suc j)) i
 
+-- the record at a place is found there
+pub located-at : (at k : ℕ) (rest : List ℕ) → Bytes rest → Located at (recordAt at k rest)
+located-at at k rest h =
+    record {
+      from = omega arith;
+      size = omega (arith, length-take (bodySize k) rest);
+      small = bytes-take (bodySize k) rest h;
+    }
+
 located-later : {at : ℕ} {r : Record} → Located (at + 1) r → Located at r
 located-later f = let h = f .from in record { from = omega arith; size = f .size; small = f .small }
 
--- and each is found there
+-- and so is each of the records
 pub located : (skip at : ℕ) (bs : List ℕ) → Bytes bs → (r : Record) → List·Memᴰ r (recordsFrom skip at bs) → Located at r
 unfolding recordsFrom
 located zero at [] h r m = absurd (List·Memᴰ·not-nil m)
 located (suc skip) at [] h r m = absurd (List·Memᴰ·not-nil m)
 located zero at (k ∷ rest) h r m =
-    ⊎-elim (λ e. subst (Located at) (sym e) first)
+    ⊎-elim (λ e. subst (Located at) (sym e) (located-at at k rest (λ i. h (suc i))))
     (λ o. located-later (located (bodySize k) (at + 1) rest (λ i. h (suc i)) r o))
     (List·Memᴰ·cases-cons m)
-  where
-    first : Located at (recordAt at k rest)
-    first =
-        record {
-          from = omega arith;
-          size = omega (arith, length-take (bodySize k) rest);
-          small = bytes-take (bodySize k) rest (λ i. h (suc i));
-        }
 located (suc skip) at (b ∷ rest) h r m = located-later (located skip (at + 1) rest (λ i. h (suc i)) r m)

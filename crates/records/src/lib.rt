@@ -62,7 +62,7 @@ pub fn is_free(pending: u32, clock: usize) -> bool
 }
 
 // What a step has, with a digit more.
-pub fn mark(pending: u32, digit: usize) -> u32
+fn mark(pending: u32, digit: usize) -> u32
     ensures { λ r. ⌜ r ≡ marked pending digit ⌝ }
 {
     pending | (1 << (digit % 32))

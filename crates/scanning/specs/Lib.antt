@@ -1,4 +1,9 @@
 pub mod Progress
-pub mod Ready
-pub mod Walked
+pub mod Compare
+pub mod Noted
+pub mod Safe
+pub mod Follows
+pub mod Settled
+pub mod Tested
+pub mod Found
 pub mod Judged

@@ -1,167 +1,231 @@
-// A scan, judged by a table's bytes: they are read, and then the records of the next step alone are gone through once more.
-use decode::guard_at;
+// A scan, judged by a table's bytes: while they are read, the guards of the record's step are tested.
+use records::Tally;
+use records::Verdict;
 use records::between;
 use records::body_size;
 use records::is_free;
-use records::mark;
 use scans::Running;
 use scans::Scanned;
-use scans::Verdict;
 use table::Fault;
-use table::Guard;
 use table::Read;
 use table::Refusal;
-use table::Relation;
 use ticks::elapsed;
 use ticks::later;
-use wire::byte_at;
-use wire::locate;
+use wire::after_end;
+use wire::byte_in;
+use wire::judge;
 ghost use mathlib.Core.Path.{_≡_};
-ghost use mathlib.Core.Bool.{cond};
+ghost use mathlib.Core.Bool.{true, cond};
 ghost use Prim.Native.Nat.{_≤_, _<_, _+_, _-_};
-ghost use lib.Dec.{ltb};
 ghost use lib.ListN.{length, drop};
 ghost use Rattle.ticks.specs.Ticks.{laterOf};
-ghost use Rattle.records.specs.Rules.{isFree};
-ghost use Rattle.wire.specs.Records.{recordAt, recordsAt};
-ghost use Rattle.wire.specs.Listing.{contentOf};
-ghost use Rattle.wire.specs.Begins.{entriesIn};
-ghost use Rattle.asking.specs.Rounds.{cycleOf};
-ghost use Rattle.scans.specs.Scan.{compares, aged, following, heldAll, fits, scanned};
-ghost use Rattle.scans.specs.Answer.{refusedWith, judgedBy, scanOf};
-ghost use Rattle.scanning.specs.Progress.{clearedBy, decidedBy, guardTaken, resetTaken, takenBy, started, walked};
-ghost use Rattle.scanning.specs.Ready.{LegalEntries, LegalContent, Ready, Begun};
+ghost use Rattle.records.specs.Rules.{relationOf, isFree};
+ghost use Rattle.wire.specs.Records.{recordAt};
+ghost use Rattle.wire.specs.Reading.{readOf};
+ghost use Rattle.wire.specs.Listing.{guardIn, contentOf};
+ghost use Rattle.scans.specs.Scan.{compares, following, heldAll, fits};
+ghost use Rattle.scans.specs.Answer.{refusedWith, scanOf};
+ghost use Rattle.scanning.specs.Progress.{meets, started, failed, guardTested, stepFinished, noted, progressOf, settled, acceptedBy, decidedBy, concludedBy};
+ghost use Rattle.scanning.specs.Safe.{GuardAt, Counts};
 
-// Whether a guard holds of a reading.
-fn compare(g: Guard, reading: u16) -> bool
-    ensures { λ r. ⌜ r ≡ compares (g .relation) (g .constant) reading ⌝ }
+// Whether a reading, so many ticks later, stands to a constant as a relation's byte says.
+fn compare(relation: usize, constant: usize, reading: u16, ticks: u16) -> bool
+    ensures { λ r. ⌜ r ≡ compares (relationOf relation) constant (reading + ticks) ⌝ }
 {
-    let relation = g.relation;
-    let constant = g.constant;
-    match relation {
-        Relation::Under => reading < constant,
-        Relation::AtMost => reading <= constant,
-        Relation::Exactly => reading == constant,
-        Relation::AtLeast => constant <= reading,
-        Relation::Over => constant < reading,
+    let later = reading as usize + ticks as usize;
+    if later < constant {
+        return relation < 2;
     }
+    if constant < later {
+        return 2 < relation;
+    }
+    between(1, relation, 3)
 }
 
-// What the records of a step have come to: how many guards there were, the number of the first that failed or 0, and the clocks that are
-// reset, as binary digits: digit j for clock j.
+// Whether the guard whose record begins at a place holds of some readings so many ticks later. They are not held at 4,001 for that: no
+// constant is above 4,000.
+fn holds_at(bytes: &[u8], at: usize, readings: &[u16; 6], ticks: u16) -> bool
+    requires { ⌜ GuardAt (now bytes) at ⌝ }
+    ensures { λ r. ⌜ r ≡ meets (now (readings .entry)) ticks (guardIn (recordAt at 2 (drop (at + 1) (now (bytes .entry))))) ⌝ }
+{
+    let clock = byte_in(bytes, at + 1);
+    let relation = byte_in(bytes, at + 2);
+    let low = byte_in(bytes, at + 3);
+    let high = byte_in(bytes, at + 4);
+    compare(relation, low + high * 256, readings[clock - 1], ticks)
+}
+
+// What has been found of a step, while the table is read: whether the step is under way; the guards before it; the number of its first
+// guard that failed, counted from the table's first, or 0; and, once it is finished, the clocks that it resets, as binary digits: digit j
+// for clock j.
 struct Progress {
-    guards: usize,
+    on: bool,
+    first: usize,
     failing: usize,
     resets: u32,
 }
 
-// A guard more, tested on the readings before all resets.
-fn take_guard(p: Progress, readings: &[u16; 6], g: Guard) -> Progress
-    requires { ⌜ (1 ≤ g .clock) × (g .clock ≤ 6) × (p .guards ≤ 4096) ⌝ }
-    ensures { λ r. ⌜ r ≡ guardTaken (now (readings .entry)) p g ⌝ }
+// Before the first record, when a step is asked for, from 1.
+fn begin(step: usize) -> Progress
+    ensures { λ r. ⌜ r ≡ started step ⌝ }
 {
-    let mut out = p;
-    out.guards = p.guards + 1;
-    if p.failing != 0 {
-        return out;
-    }
-    let clock = g.clock as usize;
-    if compare(g, readings[clock - 1]) {
-        return out;
-    }
-    out.failing = p.guards + 1;
-    out
-}
-
-// A reset more.
-fn take_reset(p: Progress, clock: usize) -> Progress
-    ensures { λ r. ⌜ r ≡ resetTaken p clock ⌝ }
-{
-    let mut out = p;
-    out.resets = mark(p.resets, clock);
-    out
-}
-
-// The record of a kind at a place, which belongs to the step or is the head.
-fn take_record(bytes: &[u8], at: usize, k: usize, readings: &[u16; 6], p: Progress) -> Progress
-    requires { ⌜ (at ≤ 4096) × (p .guards ≤ 4096) × LegalContent (contentOf (recordAt at k (drop (at + 1) (now bytes)))) ⌝ }
-    ensures { λ r. ⌜ r ≡ takenBy (now (readings .entry)) p (contentOf (recordAt at k (drop (at + 1) (now (bytes .entry))))) ⌝ }
-{
-    if k == 2 {
-        return take_guard(p, readings, guard_at(bytes, at));
-    }
-    if k == 3 {
-        return take_reset(p, byte_at(bytes, at + 1));
-    }
-    p
-}
-
-// The records of the step that begins at a place.
-fn walk(bytes: &[u8], place: usize, readings: &[u16; 6]) -> Progress
-    requires { ⌜ (length (now bytes) ≤ 4096) × LegalEntries (entriesIn (recordsAt (now bytes) place)) ⌝ }
-    ensures { λ r. ⌜ r ≡ walked (now (readings .entry)) started (entriesIn (recordsAt (now (bytes .entry)) place)) ⌝ }
-{
-    let mut p = Progress {
-        guards: 0,
+    Progress {
+        on: step == 1,
+        first: 0,
         failing: 0,
         resets: 0,
-    };
-    let mut at = place;
-    while at < bytes.len() {
-        let k = byte_at(bytes, at);
-        if !between(1, k, 3) {
-            return p;
-        }
-        p = take_record(bytes, at, k, readings, p);
-        at = at + 1 + body_size(k);
+    }
+}
+
+// A guard that does not hold, by its number in the table.
+fn fail(p: Progress, number: usize) -> Progress
+    ensures { λ r. ⌜ r ≡ failed p number ⌝ }
+{
+    if p.failing != 0 {
+        return p;
+    }
+    let mut out = p;
+    out.failing = number;
+    out
+}
+
+// The guard whose record begins at a place: it is tested if it is the step's.
+fn test_guard(
+    bytes: &[u8],
+    at: usize,
+    readings: &[u16; 6],
+    ticks: u16,
+    t: Tally,
+    p: Progress,
+) -> Progress
+    requires { ⌜ GuardAt (now bytes) at × (t .guards ≤ 64) ⌝ }
+    ensures { λ r. ⌜ r ≡ guardTested (now (readings .entry)) ticks t p (guardIn (recordAt at 2 (drop (at + 1) (now (bytes .entry))))) ⌝ }
+{
+    if !p.on {
+        return p;
+    }
+    if holds_at(bytes, at, readings, ticks) {
+        return p;
+    }
+    fail(p, t.guards + 1)
+}
+
+// A step of the table is finished: its resets are noted if it is the one asked for, and the guards so far if the next one is.
+fn finish_step(step: usize, t: Tally, p: Progress) -> Progress
+    requires { ⌜ t .steps ≤ 16 ⌝ }
+    ensures { λ r. ⌜ r ≡ stepFinished step t p ⌝ }
+{
+    let mut out = p;
+    if p.on {
+        out.resets = t.pending;
+    }
+    out.on = t.steps + 2 == step;
+    if out.on {
+        out.first = t.guards;
+    }
+    out
+}
+
+// The record of a kind at a place, after the records that a tally counts.
+fn note(
+    bytes: &[u8],
+    at: usize,
+    k: usize,
+    step: usize,
+    readings: &[u16; 6],
+    ticks: u16,
+    t: Tally,
+    p: Progress,
+) -> Progress
+    requires { ⌜ Counts (now bytes) at k t ⌝ }
+    ensures { λ r. ⌜ r ≡ noted step (now (readings .entry)) ticks t p (contentOf (recordAt at k (drop (at + 1) (now (bytes .entry))))) ⌝ }
+{
+    if k == 2 {
+        return test_guard(bytes, at, readings, ticks, t, p);
+    }
+    if k == 4 {
+        return finish_step(step, t, p);
     }
     p
 }
 
-// The reading at a place of six, some ticks later, if the table has its clock.
-fn age_one(reading: u16, i: usize, clocks: usize, ticks: u16) -> u16
-    ensures { λ r. ⌜ r ≡ cond (ltb i clocks) (laterOf reading ticks) reading ⌝ }
+// The answer to the question "read", and what has been found of a step.
+struct Watched {
+    answer: Read,
+    progress: Progress,
+}
+
+// Both, together.
+fn told(answer: Read, progress: Progress) -> Watched
+    ensures { λ r. ⌜ (r .answer ≡ answer) × (r .progress ≡ progress) ⌝ }
 {
-    if i < clocks {
-        return later(reading, ticks);
+    Watched { answer, progress }
+}
+
+// Bytes that are not too long are read, and the guards of a step, from 1, are tested on some readings so many ticks later.
+fn watch(bytes: &[u8], step: usize, readings: &[u16; 6], ticks: u16) -> Watched
+    requires { ⌜ length (now bytes) ≤ 4096 ⌝ }
+    ensures { λ r. ⌜ (r .answer ≡ readOf (now (bytes .entry)))
+        × (r .progress ≡ progressOf step (now (readings .entry)) ticks (now (bytes .entry))) ⌝ }
+{
+    let len = bytes.len();
+    let mut t = Tally {
+        clocks: 0,
+        steps: 0,
+        guards: 0,
+        pending: 0,
+    };
+    let mut p = begin(step);
+    let mut at: usize = 0;
+    while at < len {
+        let verdict = judge(bytes, at, t);
+        let k = byte_in(bytes, at);
+        let next = at + 1 + body_size(k);
+        match verdict {
+            Verdict::Refused(r) => {
+                return told(Read::Refused(r), p);
+            }
+            Verdict::Last => {
+                return told(after_end(bytes, next, t), p);
+            }
+            Verdict::Next(u) => {
+                p = note(bytes, at, k, step, readings, ticks, t, p);
+                t = u;
+                at = next;
+            }
+        }
     }
-    reading
+    told(
+        Read::Refused(Refusal {
+            fault: Fault::Cut,
+            place: len,
+        }),
+        p,
+    )
 }
 
-// All readings, some ticks later.
-fn age(readings: [u16; 6], clocks: usize, ticks: u16) -> [u16; 6]
-    ensures { λ r. ⌜ r ≡ aged clocks ticks readings ⌝ }
-{
-    let a = age_one(readings[0], 0, clocks, ticks);
-    let b = age_one(readings[1], 1, clocks, ticks);
-    let c = age_one(readings[2], 2, clocks, ticks);
-    let d = age_one(readings[3], 3, clocks, ticks);
-    let e = age_one(readings[4], 4, clocks, ticks);
-    let f = age_one(readings[5], 5, clocks, ticks);
-    [a, b, c, d, e, f]
-}
-
-// The reading of a clock after the resets.
-fn clear_one(reading: u16, resets: u32, clock: usize) -> u16
-    ensures { λ r. ⌜ r ≡ cond (isFree resets clock) reading 0 ⌝ }
+// The reading of a clock after an accepted scan.
+fn settle_one(reading: u16, clock: usize, ticks: u16, resets: u32) -> u16
+    ensures { λ r. ⌜ r ≡ cond (isFree resets clock) (laterOf reading ticks) 0 ⌝ }
 {
     if is_free(resets, clock) {
-        return reading;
+        return later(reading, ticks);
     }
     0
 }
 
-// All readings after the resets.
-fn clear(readings: [u16; 6], resets: u32) -> [u16; 6]
-    ensures { λ r. ⌜ r ≡ clearedBy resets readings ⌝ }
+// All readings after an accepted scan: those of the table's clocks are so many ticks later, or 0 where they are reset.
+fn settle(readings: [u16; 6], clocks: usize, ticks: u16, resets: u32) -> [u16; 6]
+    requires { ⌜ clocks ≤ 6 ⌝ }
+    ensures { λ r. ⌜ r ≡ settled clocks ticks resets readings ⌝ }
 {
-    let a = clear_one(readings[0], resets, 1);
-    let b = clear_one(readings[1], resets, 2);
-    let c = clear_one(readings[2], resets, 3);
-    let d = clear_one(readings[3], resets, 4);
-    let e = clear_one(readings[4], resets, 5);
-    let f = clear_one(readings[5], resets, 6);
-    [a, b, c, d, e, f]
+    let mut out = readings;
+    let mut i: usize = 0;
+    while i < clocks {
+        out[i] = settle_one(out[i], i + 1, ticks, resets);
+        i += 1;
+    }
+    out
 }
 
 // Whether the readings of a table's clocks are at most 4,001.
@@ -203,69 +267,74 @@ fn next_step(step: u16, steps: usize) -> u16
     step + 1
 }
 
-// All guards of the next step are tested: accepted, or turned away by the first that failed.
-fn decide(p: Progress, readings: [u16; 6], steps: usize, running: Running, counter: u16) -> Scanned
-    requires { ⌜ (running .step ≤ steps) × (steps ≤ 16) ⌝ }
-    ensures { λ r. ⌜ r ≡ decidedBy p readings steps running counter ⌝ }
-{
-    let failing = p.failing;
-    if failing != 0 {
-        return Scanned {
-            verdict: Verdict::TurnedAway(failing),
-            running,
-        };
-    }
-    let step = next_step(running.step, steps);
-    let cleared = clear(readings, p.resets);
-    let next = Running {
-        step,
-        readings: cleared,
-        counter,
-    };
-    Scanned {
-        verdict: Verdict::Accepted,
-        running: next,
-    }
-}
-
-// A scan of a record that the table can go on from, whose next step begins at a place.
-fn judge(
-    bytes: &[u8],
-    place: usize,
+// All guards of the step hold.
+fn accept(
+    resets: u32,
     clocks: usize,
+    ticks: u16,
     steps: usize,
     running: Running,
     counter: u16,
 ) -> Scanned
-    requires { ⌜ Begun (now bytes) place clocks steps running ⌝ }
-    ensures { λ r. ⌜ r ≡ scanned (cycleOf (now (bytes .entry))) clocks running counter ⌝ }
+    requires { ⌜ (clocks ≤ 6) × (running .step ≤ steps) × (steps ≤ 16) ⌝ }
+    ensures { λ r. ⌜ r ≡ acceptedBy resets clocks ticks steps running counter ⌝ }
 {
+    let step = next_step(running.step, steps);
     let was = running.readings;
-    let readings = age(was, clocks, elapsed(running.counter, counter));
-    let p = walk(bytes, place, &readings);
-    decide(p, readings, steps, running, counter)
+    let readings = settle(was, clocks, ticks, resets);
+    let next = Running {
+        step,
+        readings,
+        counter,
+    };
+    Scanned {
+        verdict: scans::Verdict::Accepted,
+        running: next,
+    }
+}
+
+// All guards of the step are tested: accepted, or turned away by the first that failed.
+fn decide(
+    p: Progress,
+    clocks: usize,
+    ticks: u16,
+    steps: usize,
+    running: Running,
+    counter: u16,
+) -> Scanned
+    requires { ⌜ (clocks ≤ 6) × (running .step ≤ steps) × (steps ≤ 16) × ((p .failing ≡ 0 → ⊥) → p .first ≤ p .failing) ⌝ }
+    ensures { λ r. ⌜ r ≡ decidedBy p clocks ticks steps running counter ⌝ }
+{
+    let failing = p.failing;
+    if failing != 0 {
+        return Scanned {
+            verdict: scans::Verdict::TurnedAway(failing - p.first),
+            running,
+        };
+    }
+    accept(p.resets, clocks, ticks, steps, running, counter)
 }
 
 fn refuse(running: Running, refusal: Refusal) -> Scanned
     ensures { λ r. ⌜ r ≡ refusedWith running refusal ⌝ }
 {
     Scanned {
-        verdict: Verdict::Refused(refusal),
+        verdict: scans::Verdict::Refused(refusal),
         running,
     }
 }
 
-// A scan by bytes that are accepted, when the place is known where the record's step begins.
-fn scan_at(
-    bytes: &[u8],
-    place: usize,
+// The bytes are accepted: a record that the table cannot go on from is refused, and any other is judged.
+fn conclude(
+    p: Progress,
     clocks: usize,
+    ticks: u16,
     steps: usize,
     running: Running,
     counter: u16,
 ) -> Scanned
-    requires { ⌜ Ready (now bytes) (running .step - 1) place clocks steps ⌝ }
-    ensures { λ r. ⌜ r ≡ judgedBy (now (bytes .entry)) clocks steps running counter ⌝ }
+    requires { ⌜ (clocks ≤ 6) × (steps ≤ 16) × (fits clocks steps running ≡ true → (p .failing ≡ 0 → ⊥) → p .first ≤ p .failing) ⌝ }
+    ensures { λ r. ⌜ r ≡ concludedBy p clocks ticks steps running counter ⌝ }
 {
     if !can_go_on(running, clocks, steps) {
         let refusal = Refusal {
@@ -274,32 +343,39 @@ fn scan_at(
         };
         return refuse(running, refusal);
     }
-    judge(bytes, place, clocks, steps, running, counter)
+    decide(p, clocks, ticks, steps, running, counter)
 }
 
-// How many steps are finished before a step.
-fn steps_before(step: u16) -> usize
-    ensures { λ r. ⌜ r ≡ step - 1 ⌝ }
-{
-    if step == 0 {
-        return 0;
-    }
-    step as usize - 1
-}
-
-// One scan: what is found of it, and the record after it.
-pub fn scan(bytes: &[u8], running: Running, counter: u16) -> Scanned
+// `scan` for bytes that are not too long.
+fn scan_short(bytes: &[u8], running: Running, counter: u16) -> Scanned
+    requires { ⌜ length (now bytes) ≤ 4096 ⌝ }
     ensures { λ r. ⌜ r ≡ scanOf (now (bytes .entry)) running counter ⌝ }
 {
-    let located = locate(bytes, steps_before(running.step));
-    let answer = located.answer;
-    let place = located.place;
+    let readings = running.readings;
+    let ticks = elapsed(running.counter, counter);
+    let watched = watch(bytes, running.step as usize, &readings, ticks);
+    let answer = watched.answer;
+    let p = watched.progress;
     match answer {
         Read::Refused(refusal) => refuse(running, refusal),
         Read::Counted {
             clocks,
             steps,
             guards: _,
-        } => scan_at(bytes, place, clocks, steps, running, counter),
+        } => conclude(p, clocks, ticks, steps, running, counter),
     }
+}
+
+// One scan: what is found of it, and the record after it.
+pub fn scan(bytes: &[u8], running: Running, counter: u16) -> Scanned
+    ensures { λ r. ⌜ r ≡ scanOf (now (bytes .entry)) running counter ⌝ }
+{
+    if 4096 < bytes.len() {
+        let refusal = Refusal {
+            fault: Fault::Length,
+            place: 4096,
+        };
+        return refuse(running, refusal);
+    }
+    scan_short(bytes, running, counter)
 }

@@ -1,4 +1,4 @@
--- Laws of readings that are held, one after the other, and of records that a table can go on from.
+-- Laws of readings that have aged, of readings that are held, one after the other, and of records that a table can go on from.
 use mathlib.Core.Path.{_≡_, refl, sym, ap, _∙_}
 use mathlib.Core.Bool.{Bool, true, false, _&&_, and-false}
 use mathlib.Core.List.{List}
@@ -8,10 +8,17 @@ use native.Mathlib.Decide.{ℕ-discrete}
 use native.Mathlib.Numerals.{add-one}
 use lib.Dec.{leb}
 use lib.ListN.{getD}
-use borrow.Author.Tests.{le-leb, lt-leb, leb-true}
+use borrow.Author.Tests.{lt-ltb, le-leb, lt-leb, leb-true}
+use Rattle.basics.specs.Tab.{getD-tab}
+use Rattle.ticks.specs.Ticks.{laterOf}
 use Rattle.records.specs.Tests.{both}
 use Rattle.scans.specs.declared.Running.{Running}
-use Rattle.scans.specs.Scan.{heldAll, fits}
+use Rattle.scans.specs.Scan.{aged, heldAll, fits}
+
+-- the reading of one of n clocks has aged
+pub aged-at : (n ticks : ℕ) (r : List ℕ) (i : ℕ) → n ≤ 6 → i < n → getD (aged n ticks r) i 0 ≡ laterOf (getD r i 0) ticks
+unfolding aged
+aged-at n ticks r i few h = getD-tab _ 6 i (omega arith) ∙ rw (lt-ltb i n h)
 
 pub held-none : (r : List ℕ) → heldAll 0 r ≡ true
 unfolding heldAll

@@ -3,7 +3,7 @@ use mathlib.Core.Path.{_≡_, refl, sym, _∙_}
 use mathlib.Core.Logic.{_↔_}
 use mathlib.Core.Bool.{Bool, true, false, false≢true}
 use mathlib.Core.List.{List, [], _∷_, List·Memᴰ, List·Memᴰ·head, List·Memᴰ·tail}
-use Prim.Native.Nat.{ℕ, zero, suc, _+_, _*_, _≤_, _<_}
+use Prim.Native.Nat.{ℕ, suc, _+_, _*_, _≤_, _<_}
 use native.Mathlib.Omega.{arith}
 use lib.ListN.{getD}
 use borrow.Author.Tests.{ltb-true, leb-true, eqb-true, lt-ltb, le-leb, eq-eqb}
@@ -15,8 +15,7 @@ use Rattle.basics.specs.Tab.{getD-tab}
 use Rattle.ticks.specs.Ticks.{held, laterOf}
 use Rattle.runs.specs.Run.{Compares}
 use Rattle.runs.specs.Tools.{Every, every-nil, every-cons}
-use Rattle.scans.specs.declared.Running.{Running}
-use Rattle.scans.specs.Scan.{aged, compares, holds, firstFailing, cleared}
+use Rattle.scans.specs.Scan.{compares, holds, firstFailing, cleared}
 use Rattle.shifts.specs.Sound.{First, here, later}
 
 -- ---- readings
@@ -32,11 +31,6 @@ compares-held Over c a h = ((λ e. omega (arith, ltb-true c (held a) e)), λ l. 
 -- a held reading some ticks later is the held later reading
 pub held-later : (a ticks : ℕ) → laterOf (held a) ticks ≡ held (a + ticks)
 held-later a ticks = omega arith
-
--- the reading of one of n clocks has aged
-pub aged-at : (n ticks : ℕ) (r : List ℕ) (i : ℕ) → n ≤ 6 → i < n → getD (aged n ticks r) i 0 ≡ laterOf (getD r i 0) ticks
-unfolding aged
-aged-at n ticks r i few h = getD-tab _ 6 i (omega arith) ∙ rw (lt-ltb i n h)
 
 -- the resets of a step: of a clock that it resets, and of another
 pub cleared-reset : (s : Step) (r : List ℕ) (i : ℕ) → i < 6 → resets s (i + 1) ≡ true → getD (cleared s r) i 0 ≡ 0

@@ -19,11 +19,11 @@ use Rattle.runs.specs.Tools.{Every}
 use Rattle.scans.specs.declared.Running.{Running}
 use Rattle.scans.specs.declared.Scanned.{Scanned}
 use Rattle.scans.specs.Scan.{logIn, aged, compares, firstFailing, cleared, due, following, decided, scanned, fits}
-use Rattle.scans.specs.Held.{fits-true}
+use Rattle.scans.specs.Held.{aged-at, fits-true}
 use Rattle.shifts.specs.Shift.{Shift, lastTime, Near, timesWith}
 use Rattle.shifts.specs.Sound.{stepsTo, momentsOf, noReading, zeroedBy, HoldsAt}
 use Rattle.shifts.specs.Grown.{moments-before, moments-new, last-new, lastReset, reset-early, reset-new, run-new}
-use Rattle.shifts.specs.Held.{compares-held, held-later, aged-at, cleared-reset, cleared-kept}
+use Rattle.shifts.specs.Held.{compares-held, held-later, cleared-reset, cleared-kept}
 use Rattle.shifts.specs.Held.{Tells, none-failing}
 
 -- A table with the steps σ is within the limits, and its guards are on clocks 1 to n.

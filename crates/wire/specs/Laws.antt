@@ -1,21 +1,24 @@
 -- How the answer goes on, one record at a time.
 use mathlib.Core.Path.{_≡_, refl, sym, ap, _∙_}
 use mathlib.Core.List.{List, _∷_}
-use Prim.Native.Nat.{ℕ, _+_, _≤_, _<_}
+use Prim.Native.Nat.{ℕ, _+_, _*_, _≤_, _<_}
+use lib.Dec.{lit<}
 use lib.ListN.{length, getD, drop}
 use lib.Seq.{getD-take, getD-drop}
 use native.Mathlib.Omega.{arith}
 use native.Mathlib.Decide.{decLe}
 use borrow.Author.Tests.{le-leb, lt-leb}
 use Rattle.table.specs.declared.Fault.the-variants as fault
+use Rattle.table.specs.declared.Guard.{Guard}
 use Rattle.table.specs.declared.Read.{Read}
 use Rattle.table.specs.declared.Read.the-variants as read
 use Rattle.records.specs.declared.Tally.{Tally}
 use Rattle.records.specs.declared.Verdict.{Verdict}
 use Rattle.records.specs.declared.Verdict.the-variants.{Refused, Next, Last}
-use Rattle.records.specs.Rules.{bodySize}
+use Rattle.records.specs.Rules.{bodySize, relationOf}
 use Rattle.wire.specs.Records.{Record, recordAt, recordsAt, records-none, records-next}
 use Rattle.wire.specs.Reading.{byte, judgeOf, tail, check, start, readOf}
+use Rattle.wire.specs.Listing.{guardIn}
 
 -- byte i of a record's body, by its place in the table
 pub byte-is : (bytes : List ℕ) (at k i : ℕ) → i < bodySize k → (n : ℕ) → n ≡ at + 1 + i
@@ -23,6 +26,20 @@ pub byte-is : (bytes : List ℕ) (at k i : ℕ) → i < bodySize k → (n : ℕ)
 byte-is bytes at k i h n e =
     ap (λ m. getD bytes m 0) e
     ∙ sym (getD-take (bodySize k) (drop (at + 1) bytes) i 0 h ∙ getD-drop (at + 1) bytes i 0)
+
+-- the guard of a record, by its bytes
+pub guard-in : (bytes : List ℕ) (at clock relation low high : ℕ) → clock ≡ getD bytes (at + 1) 0 → relation ≡ getD bytes (at + 2) 0
+    → low ≡ getD bytes (at + 3) 0 → high ≡ getD bytes (at + 4) 0
+    → _≡_ {A = Guard} (record { clock = clock; relation = relationOf relation; constant = low + high * 256 }) (guardIn (recordAt at 2 (drop (at + 1) bytes)))
+guard-in bytes at clock relation low high e₁ e₂ e₃ e₄ = λ j.
+    record {
+      clock = (e₁ ∙ of 0 (lit< tt) (at + 1) (omega arith)) j;
+      relation = relationOf ((e₂ ∙ of 1 (lit< tt) (at + 2) (omega arith)) j);
+      constant = (e₃ ∙ of 2 (lit< tt) (at + 3) (omega arith)) j + (e₄ ∙ of 3 (lit< tt) (at + 4) (omega arith)) j * 256;
+    }
+  where
+    of : (i : ℕ) → i < 4 → (n : ℕ) → n ≡ at + 1 + i → getD bytes n 0 ≡ byte (recordAt at 2 (drop (at + 1) bytes)) i
+    of i = byte-is bytes at 2 i
 
 -- what a verdict makes of the records after it
 abbrev pub onward : ℕ → Tally → List Record → Verdict → Read

@@ -2,4 +2,3 @@ pub mod Records
 pub mod Reading
 pub mod Listing
 pub mod Laws
-pub mod Begins

@@ -1,4 +1,4 @@
-// The question "read": what bytes count, or the first fault; and where the steps begin.
+// The question "read": what bytes count, or the first fault.
 use records::Tally;
 use records::Verdict;
 use records::between;
@@ -13,18 +13,15 @@ use table::Fault;
 use table::Read;
 use table::Refusal;
 ghost use mathlib.Core.Path.{_≡_};
-ghost use mathlib.Core.Bool.{_&&_};
 ghost use Prim.Native.Nat.{_≤_, _<_, _+_};
 ghost use lib.Dec.{eqb, leb};
 ghost use lib.ListN.{length, getD, take, drop};
 ghost use Rattle.records.specs.Rules.{bodySize};
 ghost use Rattle.wire.specs.Records.{recordAt, recordsAt};
 ghost use Rattle.wire.specs.Reading.{agree, wholeOf, judgeOf, tail, readOf};
-ghost use Rattle.wire.specs.Begins.{Tells};
-ghost use Rattle.table.specs.declared.Read.the-variants.{Refused};
 
 // The byte at a place that is there.
-fn byte_in(bytes: &[u8], i: usize) -> usize
+pub fn byte_in(bytes: &[u8], i: usize) -> usize
     requires { ⌜ i < length (now bytes) ⌝ }
     ensures { λ r. ⌜ (r ≡ getD (now (bytes .entry)) i 0) × (r < 256) ⌝ }
 {
@@ -116,7 +113,7 @@ fn judge_kind(bytes: &[u8], at: usize, k: usize, t: Tally) -> Verdict
 
 // The record at a place. Most records are guards and resets: where their kinds are constants, the compiler leaves the tests of the
 // other kinds out.
-fn judge(bytes: &[u8], at: usize, t: Tally) -> Verdict
+pub fn judge(bytes: &[u8], at: usize, t: Tally) -> Verdict
     requires { ⌜ (at < length (now bytes)) × (length (now bytes) ≤ 4096) ⌝ }
     ensures { λ r. ⌜ r ≡ judgeOf t (recordAt at (getD (now (bytes .entry)) at 0) (drop (at + 1) (now (bytes .entry)))) ⌝ }
 {
@@ -131,7 +128,7 @@ fn judge(bytes: &[u8], at: usize, t: Tally) -> Verdict
 }
 
 // The answer where the end has come just before a place.
-fn after_end(bytes: &[u8], at: usize, t: Tally) -> Read
+pub fn after_end(bytes: &[u8], at: usize, t: Tally) -> Read
     ensures { λ r. ⌜ r ≡ tail t (recordsAt (now (bytes .entry)) at) ⌝ }
 {
     if at < bytes.len() {
@@ -147,36 +144,18 @@ fn after_end(bytes: &[u8], at: usize, t: Tally) -> Read
     }
 }
 
-// Whether a record of a kind finishes a step, and with it as many steps as are asked for.
-fn finishes(k: usize, steps: usize, asked: usize) -> bool
-    ensures { λ r. ⌜ r ≡ (eqb k 4 && eqb steps asked) ⌝ }
+// Where the record after the one at a place begins.
+fn next_record(bytes: &[u8], at: usize) -> usize
+    requires { ⌜ (at < length (now bytes)) × (length (now bytes) ≤ 4096) ⌝ }
+    ensures { λ r. ⌜ r ≡ at + 1 + bodySize (getD (now (bytes .entry)) at 0) ⌝ }
 {
-    if k == 4 {
-        return steps == asked;
-    }
-    false
+    at + 1 + body_size(byte_in(bytes, at))
 }
 
-// The answer to the question "read"; and, if the bytes are accepted, the place where a step begins.
-pub struct Located {
-    pub answer: Read,
-    pub place: usize,
-}
-
-// Refused bytes have no steps to tell of.
-fn unlocated(refusal: Refusal) -> Located
-    ensures { λ r. ⌜ r .answer ≡ Refused refusal ⌝ }
-{
-    Located {
-        answer: Read::Refused(refusal),
-        place: 0,
-    }
-}
-
-// `locate` for bytes that are not too long.
-fn locate_records(bytes: &[u8], before: usize) -> Located
+// `read` for bytes that are not too long.
+fn read_records(bytes: &[u8]) -> Read
     requires { ⌜ length (now bytes) ≤ 4096 ⌝ }
-    ensures { λ r. ⌜ Tells (now (bytes .entry)) before r ⌝ }
+    ensures { λ r. ⌜ r ≡ readOf (now (bytes .entry)) ⌝ }
 {
     let len = bytes.len();
     let mut t = Tally {
@@ -185,52 +164,37 @@ fn locate_records(bytes: &[u8], before: usize) -> Located
         guards: 0,
         pending: 0,
     };
-    let mut place: usize = 0;
     let mut at: usize = 0;
     while at < len {
         let verdict = judge(bytes, at, t);
-        let k = byte_at(bytes, at);
-        let next = at + 1 + body_size(k);
         match verdict {
             Verdict::Refused(r) => {
-                return unlocated(r);
+                return Read::Refused(r);
             }
             Verdict::Last => {
-                let answer = after_end(bytes, next, t);
-                return Located { answer, place };
+                return after_end(bytes, next_record(bytes, at), t);
             }
             Verdict::Next(u) => {
                 t = u;
-                at = next;
-                if finishes(k, u.steps, before) {
-                    place = next;
-                }
+                at = next_record(bytes, at);
             }
         }
     }
-    unlocated(Refusal {
+    Read::Refused(Refusal {
         fault: Fault::Cut,
         place: len,
     })
-}
-
-// What bytes count, or the first fault; and where the step begins that follows so many finished ones, if there is one.
-pub fn locate(bytes: &[u8], before: usize) -> Located
-    ensures { λ r. ⌜ Tells (now (bytes .entry)) before r ⌝ }
-{
-    if 4096 < bytes.len() {
-        return unlocated(Refusal {
-            fault: Fault::Length,
-            place: 4096,
-        });
-    }
-    locate_records(bytes, before)
 }
 
 // The question "read": clocks, steps and guards counted, or the first fault and its place.
 pub fn read(bytes: &[u8]) -> Read
     ensures { λ r. ⌜ r ≡ readOf (now (bytes .entry)) ⌝ }
 {
-    let located = locate(bytes, 0);
-    located.answer
+    if 4096 < bytes.len() {
+        return Read::Refused(Refusal {
+            fault: Fault::Length,
+            place: 4096,
+        });
+    }
+    read_records(bytes)
 }

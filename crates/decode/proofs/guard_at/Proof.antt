@@ -2,7 +2,7 @@
 use borrow.Author.Needs.{needs}
 use mathlib.Core.Path.{_∙_}
 use Prim.Native.Nat.{_+_, _*_}
-use Rattle.decode.proofs.Bytes.{guard-in}
+use Rattle.wire.specs.Laws.{guard-in}
 use Rattle.decode.proofs.guard_at.Statement.{statement}
 use Rattle.decode.proofs.guard_at.Tie as tie
 

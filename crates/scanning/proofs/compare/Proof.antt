@@ -1,49 +1,31 @@
--- `scanning::compare` meets its contract: each arm knows the relation.
+-- `scanning::compare` meets its contract: the reading is under the constant by then, over it, or the same.
+use mathlib.Core.Path.{_∙_}
+use Prim.Native.Nat.{_+_}
+use native.Mathlib.Omega.{arith}
 use borrow.Author.Needs.{needs}
+use Rattle.scanning.specs.Compare.{when-under, when-over, when-same}
 use Rattle.scanning.proofs.compare.Statement.{statement}
 use Rattle.scanning.proofs.compare.Tie as tie
 
-enum-told : tie.Need-enum-told
-enum-told c = search needs
-
-enum-told-2 : tie.Need-enum-told-2
-enum-told-2 c = search needs
-
-enum-told-3 : tie.Need-enum-told-3
-enum-told-3 c = search needs
-
-enum-told-4 : tie.Need-enum-told-4
-enum-told-4 c = search needs
-
-enum-told-5 : tie.Need-enum-told-5
-enum-told-5 c = search needs
+add-later : tie.Need-add-later
+add-later c = search needs
 
 returns : tie.Need-returns
-returns c = rw (c .enum-told .given .1)
+returns c = let s = c .before .args in when-under (s .constant) (s .reading + s .ticks) (s .relation) (omega (arith, c .if1 .taken))
 
 returns-2 : tie.Need-returns-2
-returns-2 c = rw (c .enum-told2 .given .1)
+returns-2 c =
+    let s = c .before .before .args in
+    when-over (s .constant) (s .reading + s .ticks) (s .relation) (omega (arith, c .if2 .taken))
+
+between-requires : tie.Need-between-requires
+between-requires c κs = search needs
 
 returns-3 : tie.Need-returns-3
-returns-3 c = rw (c .enum-told3 .given .1)
-
-returns-4 : tie.Need-returns-4
-returns-4 c = rw (c .enum-told4 .given .1)
-
-returns-5 : tie.Need-returns-5
-returns-5 c = rw (c .enum-told5 .given .1)
+returns-3 c =
+    let s = c .before .before .before .args in
+    c .between .ensures
+    ∙ when-same (s .constant) (s .reading + s .ticks) (s .relation) (omega (arith, c .before .before .if1 .left)) (omega (arith, c .before .if2 .left))
 
 pub compare-spec : {M : Type 1} → statement M
-compare-spec =
-    tie.close
-    (tie.spec
-    enum-told
-    enum-told-2
-    enum-told-3
-    enum-told-4
-    enum-told-5
-    returns
-    returns-2
-    returns-3
-    returns-4
-    returns-5)
+compare-spec = tie.close (tie.spec add-later returns returns-2 between-requires returns-3)

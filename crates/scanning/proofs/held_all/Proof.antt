@@ -1,5 +1,5 @@
 -- `scanning::held_all` meets its contract: the readings before are held.
-use mathlib.Core.Path.{_≡_, refl, sym, ap, _∙_}
+use mathlib.Core.Path.{_≡_, sym}
 use mathlib.Core.Bool.{true}
 use Prim.Native.Nat.{_-_, _≤_}
 use Rattle.scans.specs.Scan.{heldAll}
