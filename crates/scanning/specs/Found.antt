@@ -36,6 +36,7 @@ use Rattle.format.specs.Judged.{Told, is-refused, is-head, is-entry, is-finish,
 use Rattle.scans.specs.Scan.{holds, firstFailing, aged}
 use Rattle.scanning.specs.declared.Progress.{Progress}
 use Rattle.scanning.specs.Progress.{meets, started, failed, guardTested, stepFinished, noted, followed, progressOf}
+use Rattle.scanning.specs.Noted.{tested-off}
 use Rattle.scanning.specs.Follows.{further, follow-one}
 use Rattle.scanning.specs.Tested.{meets-holds, guards-guard, guards-reset, fails-still, fails-next, flagsOf, Digits, digits-none, digits-guard, digits-reset}
 
@@ -85,8 +86,7 @@ module _ (step : ℕ) (readings : List ℕ) (ticks : ℕ) where
 
   -- an entry makes nothing of it while the step is not under way
   entry-off : (t : Tally) (p : Progress) (e : Entry) → p .on ≡ false → noted step readings ticks t p (entry e) ≡ p
-  unfolding guardTested
-  entry-off t p (guard g) off = rw off
+  entry-off t p (guard g) off = sym (tested-off readings ticks t p g off)
   entry-off t p (reset j) off = refl
 
   -- nor does a finished step, if the next one is not asked for

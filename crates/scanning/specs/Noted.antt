@@ -23,9 +23,13 @@ module _ (readings : List ℕ) (ticks : ℕ) (t : Tally) (p : Progress) (g : Gua
   unfolding guardTested
   tested-off e = ap (λ b. tested b (meets readings ticks g)) (sym e)
 
-  pub tested-met : p .on ≡ true → meets readings ticks g ≡ true → p ≡ guardTested readings ticks t p g
+  pub tested-met : meets readings ticks g ≡ true → p ≡ guardTested readings ticks t p g
   unfolding guardTested
-  tested-met e m = λ i. tested (sym e i) (sym m i)
+  tested-met m = go (p .on) ∙ ap (tested (p .on)) (sym m)
+    where
+      go : (on : Bool) → p ≡ tested on true
+      go true = refl
+      go false = refl
 
   pub tested-failed : p .on ≡ true → meets readings ticks g ≡ false → failed p (t .guards + 1) ≡ guardTested readings ticks t p g
   unfolding guardTested

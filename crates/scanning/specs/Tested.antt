@@ -25,8 +25,8 @@ use Rattle.scanning.specs.Progress.{meets, settled}
 -- ---- a guard is tested on readings that are not held
 
 -- no constant is above 4,000, so a reading that is held at 4,001 stands to it as before
-compares-held : (rel : Relation) (c x : ℕ) → c ≤ 4000 → compares rel c x ≡ compares rel c (held x)
-compares-held rel c x h = go (decLt x 4001)
+held-alike : (rel : Relation) (c x : ℕ) → c ≤ 4000 → compares rel c x ≡ compares rel c (held x)
+held-alike rel c x h = go (decLt x 4001)
   where
     far : (rel : Relation) → 4001 ≤ x → compares rel c x ≡ compares rel c 4001
     far Under l = le-ltb x c (omega arith) ∙ sym (le-ltb 4001 c (omega arith))
@@ -43,7 +43,7 @@ pub meets-holds : (n ticks : ℕ) (readings : List ℕ) (g : Guard) → n ≤ 6 
     → meets readings ticks g ≡ holds g (aged n ticks readings)
 unfolding meets
 meets-holds n ticks readings g few legal =
-    compares-held (g .relation) (g .constant) (getD readings (g .clock - 1) 0 + ticks) (legal .2)
+    held-alike (g .relation) (g .constant) (getD readings (g .clock - 1) 0 + ticks) (legal .2)
     ∙ ap (compares (g .relation) (g .constant))
     (sym (aged-at n ticks readings (g .clock - 1) few (omega (arith, legal .0, legal .1))))
 
