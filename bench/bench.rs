@@ -69,6 +69,14 @@ fn guards_only() -> Vec<u8> {
     table(6, &[guards])
 }
 
+/// 327 bytes: a step with a reset, and then one with 64 guards, of which none holds where every clock reads 2,000.
+fn guards_of_another_step() -> Vec<u8> {
+    let guards: Vec<u8> = (0..64)
+        .flat_map(|i| guard(i % 6 + 1, UNDER, 2000))
+        .collect();
+    table(6, &[reset(1), guards])
+}
+
 /// 211 bytes: sixteen steps with six resets each, and no guard.
 fn resets_only() -> Vec<u8> {
     let resets: Vec<u8> = (1..=6).flat_map(reset).collect();
@@ -614,7 +622,8 @@ fn bench_scans() {
         "scan", "proved ns", "plain ns", "ratio"
     );
     println!(" {:>7} {:>11}", "by read", "proved ns");
-    let (line, longest, guards) = (line(), longest(), guards_only());
+    let (line, longest, guards, others) =
+        (line(), longest(), guards_only(), guards_of_another_step());
     let ratios = [
         bench_scan("S1", S1, 1, [0; 6], 3),
         bench_scan("S1", S1, 1, [0; 6], 2),
@@ -628,6 +637,7 @@ fn bench_scans() {
         bench_scan("the longest", &longest, 16, [0, 0, 0, 1, 0, 0], 4000),
         bench_scan("the longest", &longest, 17, [0; 6], 4000),
         bench_scan("64 guards in a step", &guards, 1, [0; 6], 4000),
+        bench_scan("64 guards in another step", &others, 1, [0; 6], 2000),
     ];
     let most = ratios.into_iter().fold(0.0, f64::max);
     println!("scan by read: at most {most:.2}");

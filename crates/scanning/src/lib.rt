@@ -89,7 +89,7 @@ fn fail(p: Progress, number: usize) -> Progress
     out
 }
 
-// The guard whose record begins at a place: one that does not hold is noted if it is the step's. Most guards hold, so that is asked first.
+// The guard whose record begins at a place: it is tested if it is the step's.
 fn test_guard(
     bytes: &[u8],
     at: usize,
@@ -101,10 +101,10 @@ fn test_guard(
     requires { ⌜ GuardAt (now bytes) at × (t .guards ≤ 64) ⌝ }
     ensures { λ r. ⌜ r ≡ guardTested (now (readings .entry)) ticks t p (guardIn (recordAt at 2 (drop (at + 1) (now (bytes .entry))))) ⌝ }
 {
-    if holds_at(bytes, at, readings, ticks) {
+    if !p.on {
         return p;
     }
-    if !p.on {
+    if holds_at(bytes, at, readings, ticks) {
         return p;
     }
     fail(p, t.guards + 1)
