@@ -1,5 +1,6 @@
 //! Times the proved libraries beside plain Rust, question by question, from log-in and in mid-shift; the panel also beside the
-//! plan of the same rounds; and a scan also beside reading the same table, which each scan does.
+//! plan of the same rounds; a scan also beside reading the same table, which each scan does; and a tray of scans also beside the same
+//! scans given singly.
 //!
 //! The sides take turns in the same run, each turn a batch of calls; the median batch counts. Time is that of this thread on a
 //! processor, so that other work on the machine does not count. The answers of the two must agree.
@@ -14,6 +15,8 @@ mod plain;
 mod scan;
 #[path = "../plain/scans.rs"]
 mod scans;
+#[path = "../terminal/tray.rs"]
+mod tray;
 
 use plain::entries;
 use std::cell::RefCell;
@@ -75,6 +78,25 @@ fn guards_of_another_step() -> Vec<u8> {
         .flat_map(|i| guard(i % 6 + 1, UNDER, 2000))
         .collect();
     table(6, &[reset(1), guards])
+}
+
+/// 531 bytes: sixteen steps with six resets each, and 64 guards, four in each step or all in the first. The last guard of a step
+/// holds from a tick after the step before it.
+fn waiting(all_in_first: bool) -> Vec<u8> {
+    let step = |i: u8| {
+        let number = match (all_in_first, i) {
+            (false, _) => 4,
+            (true, 0) => 64,
+            (true, _) => 0,
+        };
+        let guards = (1..=number).flat_map(|j| match j {
+            _ if j == number => guard(4, AT_LEAST, 1),
+            _ => guard(j % 6 + 1, AT_MOST, 4000),
+        });
+        guards.chain((1..=6).flat_map(reset)).collect()
+    };
+    let steps: Vec<_> = (0..16).map(step).collect();
+    table(6, &steps)
 }
 
 /// 211 bytes: sixteen steps with six resets each, and no guard.
@@ -643,6 +665,113 @@ fn bench_scans() {
     println!("scan by read: at most {most:.2}");
 }
 
+/// The scans of a tray.
+const TRAY: usize = 256;
+
+type Tray = fn(&[u8], &[u16], &mut [u16], &mut [u16], &mut [u64]) -> bool;
+
+/// Rooms that serve every tray.
+#[derive(Debug, PartialEq)]
+struct Trayed {
+    answer: [u64; 4],
+    running: Record,
+    verdicts: [u16; TRAY],
+}
+
+impl Trayed {
+    fn new() -> Trayed {
+        Trayed {
+            answer: [9; 4],
+            running: [9; 8],
+            verdicts: [9; TRAY],
+        }
+    }
+
+    /// A tray of a record, which each call has anew.
+    fn ask(&mut self, tray: Tray, bytes: &[u8], record: &Record, counters: &[u16]) {
+        self.running = *black_box(record);
+        assert!(tray(
+            black_box(bytes),
+            black_box(counters),
+            &mut self.running,
+            &mut self.verdicts,
+            &mut self.answer
+        ));
+        black_box(self);
+    }
+
+    /// The same scans, given singly to the library, which leaves the record in memory from scan to scan.
+    fn ask_singly(&mut self, bytes: &[u8], record: &Record, counters: &[u16]) {
+        self.running = *black_box(record);
+        let mut accepted = 0;
+        for (i, &counter) in black_box(counters).iter().enumerate() {
+            let (running, answer) = (&mut self.running, &mut self.answer);
+            assert!(scan::one(black_box(bytes), counter, running, answer));
+            self.verdicts[i] = self.answer[1] as u16;
+            accepted += u64::from(self.answer[1] == 0);
+        }
+        self.answer = [0, accepted, 0, 0];
+        black_box(self);
+    }
+}
+
+/// A tray from step 1 and readings 0, by the ticks that pass before each scan: of the library and of plain Rust, and the same scans
+/// given singly to the library. Tray by single scans.
+fn bench_tray(name: &str, bytes: &[u8], ticks: impl Fn(usize) -> u16) -> f64 {
+    // The counter starts again.
+    let record = [1, 0, 0, 0, 0, 0, 0, 65500];
+    let mut counter: u16 = record[7];
+    let counters: [u16; TRAY] = std::array::from_fn(|i| {
+        counter = counter.wrapping_add(ticks(i));
+        counter
+    });
+    let [mut a, mut b, mut c] = std::array::from_fn(|_| Trayed::new());
+    a.ask(tray::scan, bytes, &record, &counters);
+    b.ask_singly(bytes, &record, &counters);
+    c.ask(scans::entries::tray, bytes, &record, &counters);
+    assert_eq!((&a, &a), (&b, &c));
+    assert_eq!(a.answer[0], 0);
+    let accepted = a.answer[1];
+    let [tray, singly, plain] = time([
+        &mut || a.ask(tray::scan, bytes, &record, &counters),
+        &mut || b.ask_singly(bytes, &record, &counters),
+        &mut || c.ask(scans::entries::tray, bytes, &record, &counters),
+    ]);
+    println!(
+        "{:<60} {tray:>11.0} {plain:>11.0} {:>6.2} {:>9.3} {singly:>11.0}",
+        format!("{name}, {} bytes: {accepted} accepted", bytes.len()),
+        tray / plain,
+        tray / singly
+    );
+    tray / singly
+}
+
+/// Trays of as many scans as there can be.
+fn bench_trays() {
+    println!("{:<60} {:>40} {:>11}", "", "tray", "singly");
+    print!(
+        "{:<60} {:>11} {:>11} {:>6}",
+        "tray of 256 scans", "proved ns", "plain ns", "ratio"
+    );
+    println!(" {:>9} {:>11}", "by singly", "proved ns");
+    bench_tray("S1", S1, |_| 3);
+    bench_tray("5 steps", &line(), |i| [20, 5, 5, 3, 0][i % 5]);
+    // A tick passes or not, in no order.
+    let tossed = |i: usize| {
+        let z = (i as u64 + 1).wrapping_mul(0x9e37_79b9_7f4a_7c15);
+        ((z ^ (z >> 30)).wrapping_mul(0xbf58_476d_1ce4_e5b9) >> 63) as u16
+    };
+    let (each, first) = (waiting(false), waiting(true));
+    let ratios = [
+        bench_tray("4 guards in each step", &each, |_| 1),
+        bench_tray("4 guards in each step", &each, tossed),
+        bench_tray("64 guards in the first step", &first, |_| 1),
+        bench_tray("64 guards in the first step", &first, |_| 0),
+    ];
+    let most = ratios.into_iter().fold(0.0, f64::max);
+    println!("tray by single scans, 531 bytes: at most {most:.3}; the goal is 0.1");
+}
+
 fn main() {
     println!(
         "{:<60} {:>30} {:>30} {:>9}",
@@ -689,4 +818,6 @@ fn main() {
     bench_panels();
     println!();
     bench_scans();
+    println!();
+    bench_trays();
 }

@@ -3,6 +3,7 @@
 #include "../terminal/judge.h"
 #include "../terminal/panel.h"
 #include "../terminal/scan.h"
+#include "../terminal/tray.h"
 #include <stdio.h>
 #include <stdlib.h>
 #include <string.h>
@@ -17,7 +18,7 @@ static int64_t row[JUDGE_ROW];
 static uint8_t marks[PANEL_MARKS];
 static double seconds[PANEL_TIMES];
 static struct panel_widest_answer widest;
-static uint16_t running[SCAN_RUNNING];
+static uint16_t running[SCAN_RUNNING], verdicts[TRAY_COUNTERS];
 
 static void ask_read(void) { judge_read(table, length, answer, 4); }
 static void ask_rounds(void) { judge_rounds(table, length, answer, 4); }
@@ -43,6 +44,20 @@ static void ask_scan(void) {
             memset(running, 0, sizeof running);
             running[SCAN_STEP] = step;
             scan_one(table, length, passed[i], running, SCAN_RUNNING, answer, 4);
+        }
+}
+
+/* A tray as large as there can be, with no, few and many ticks between scans, from each step that there can be, and from one that
+ * there is not. */
+static void ask_tray(void) {
+    static const uint16_t passed[] = {0, 3, 4000};
+    static uint16_t counters[TRAY_COUNTERS];
+    for (uint16_t step = 0; step <= 16; step++)
+        for (int i = 0; i < 3; i++) {
+            for (int j = 0; j < TRAY_COUNTERS; j++) counters[j] = (uint16_t)((j + 1) * passed[i]);
+            memset(running, 0, sizeof running);
+            running[SCAN_STEP] = step;
+            tray_scan(table, length, counters, TRAY_COUNTERS, running, SCAN_RUNNING, verdicts, TRAY_COUNTERS, answer, 4);
         }
 }
 
@@ -108,9 +123,9 @@ static void line(const char *name, uint64_t k) {
     rounds_asked = k;
     void (*asked[])(void) = {ask_read, ask_rounds, ask_plan, ask_demands,
                              ask_rounds_mid_shift, ask_plan_mid_shift, ask_demands_mid_shift, ask_windows, ask_widest,
-                             ask_log_in, ask_scan};
+                             ask_log_in, ask_scan, ask_tray};
     printf("%-44s", name);
-    for (int i = 0; i < 11; i++) {
+    for (int i = 0; i < 12; i++) {
         size_t bytes = taken(asked[i]);
         printf(" %8zu", bytes);
         if (bytes > LIMIT) failed = 1;
@@ -127,10 +142,10 @@ static void sample(const char *path, uint64_t k) {
 }
 
 int main(void) {
-    printf("%-44s %8s %26s %26s %17s %17s\n", "", "", "from log-in", "in mid-shift", "panel", "scans");
+    printf("%-44s %8s %26s %26s %17s %26s\n", "", "", "from log-in", "in mid-shift", "panel", "scans");
     printf("%-44s %8s", "stack in bytes", "read");
     for (int i = 0; i < 2; i++) printf(" %8s %8s %8s", "rounds", "plan", "demands");
-    printf(" %8s %8s %8s %8s\n", "windows", "widest", "log-in", "scan");
+    printf(" %8s %8s %8s %8s %8s\n", "windows", "widest", "log-in", "scan", "tray");
     sample("samples/S1.table", 1024);
     sample("samples/S2.table", 2);
     sample("samples/S10.table", 2);

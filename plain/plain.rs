@@ -40,6 +40,8 @@ pub enum Fault {
     List,
     Twice,
     Record,
+    Tray,
+    Verdicts,
 }
 
 /// A fault and the place of the byte that it is found at, or 0.

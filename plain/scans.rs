@@ -1,11 +1,14 @@
-//! Log-in and scans in plain Rust, by the words of 02. The proved library is compared with it, in what it answers
-//! (terminal/compare.rs) and in how long it takes (bench/bench.rs).
+//! Log-in, scans and trays of them in plain Rust, by the words of 02. The proved libraries are compared with it, in what they
+//! answer (terminal/compare.rs) and in how long they take (bench/bench.rs).
 
 use crate::plain::{Fault, Guard, Refusal, Relation, Table, CLOCKS};
 use std::ops::RangeInclusive;
 
 /// The reading at which a clock is held.
 pub const HELD: u16 = 4001;
+
+/// The most scans of a tray.
+pub const TRAY: usize = 256;
 
 /// Counters on their circle.
 const CIRCLE: i32 = 65_536;
@@ -37,17 +40,62 @@ pub fn log_in(counter: u16) -> Running {
 
 pub fn scan(bytes: &[u8], running: Running, counter: u16) -> Result<Verdict, Refusal> {
     let table = Table::parse(bytes)?;
-    let Some(step) = step_of(&table, &running) else {
-        return Err(Refusal {
-            fault: Fault::Record,
-            place: 0,
-        });
-    };
+    if !fits(&table, &running) {
+        return refuse(Fault::Record);
+    }
+    Ok(judge(&table, running, counter))
+}
+
+/// A tray: scans at these counters, one after the other. The first places of `verdicts` get 0 for each that is accepted, and for
+/// each other the number of the guard that turns it away. The record after them, and how many are accepted.
+pub fn tray(
+    bytes: &[u8],
+    mut running: Running,
+    counters: &[u16],
+    verdicts: &mut [u16],
+) -> Result<(Running, usize), Refusal> {
+    let table = Table::parse(bytes)?;
+    if !fits(&table, &running) {
+        return refuse(Fault::Record);
+    }
+    if counters.len() > TRAY {
+        return refuse(Fault::Tray);
+    }
+    if verdicts.len() < counters.len() {
+        return refuse(Fault::Verdicts);
+    }
+    let mut accepted = 0;
+    for (&counter, verdict) in counters.iter().zip(verdicts) {
+        *verdict = match judge(&table, running, counter) {
+            Verdict::Accepted(after) => {
+                running = after;
+                accepted += 1;
+                0
+            }
+            Verdict::TurnedAway(guard) => guard as u16,
+        };
+    }
+    Ok((running, accepted))
+}
+
+fn refuse<T>(fault: Fault) -> Result<T, Refusal> {
+    Err(Refusal { fault, place: 0 })
+}
+
+/// Whether a table can go on from a record.
+fn fits(table: &Table, running: &Running) -> bool {
+    let held = running.readings[..table.clocks].iter().all(|&r| r <= HELD);
+    (1..=table.steps).contains(&running.step.into()) && held
+}
+
+/// A scan of a record that the table can go on from.
+fn judge(table: &Table, running: Running, counter: u16) -> Verdict {
+    let step = usize::from(running.step) - 1;
     let elapsed = (i32::from(counter) - i32::from(running.counter)).rem_euclid(CIRCLE);
     let reads = |clock: usize| (i32::from(running.readings[clock - 1]) + elapsed).min(HELD.into());
     let fails = |g: &Guard| !allowed(g).contains(&reads(g.clock.into()));
     if let Some(place) = table.guards_of(step).iter().position(fails) {
-        return Ok(Verdict::TurnedAway(place + 1));
+        return Verdict::TurnedAway(place + 1);
     }
     let mut after = running;
     for clock in 1..=table.clocks {
@@ -56,14 +104,7 @@ pub fn scan(bytes: &[u8], running: Running, counter: u16) -> Result<Verdict, Ref
     }
     after.step = ((step + 1) % table.steps) as u16 + 1;
     after.counter = counter;
-    Ok(Verdict::Accepted(after))
-}
-
-/// The next step, from 0, where the table can go on from the record.
-fn step_of(table: &Table, running: &Running) -> Option<usize> {
-    let step = usize::from(running.step).checked_sub(1)?;
-    let held = running.readings[..table.clocks].iter().all(|&r| r <= HELD);
-    (step < table.steps && held).then_some(step)
+    Verdict::Accepted(after)
 }
 
 /// The whole readings that a guard allows.
@@ -78,8 +119,8 @@ fn allowed(guard: &Guard) -> RangeInclusive<i32> {
     }
 }
 
-/// Both in the form of the C interface (terminal/scan.h): the record in the first eight places of a lent row, and the answer in the
-/// first four of another; false, and nothing done, where a row has fewer.
+/// All in the form of the C interface (terminal/scan.h, terminal/tray.h): the record in the first eight places of a lent row, and the
+/// answer in the first four of another; false, and nothing done, where a row has fewer.
 pub mod entries {
     use super::{Refusal, Running, Verdict};
 
@@ -94,6 +135,10 @@ pub mod entries {
     fn numbers(running: Running) -> [u16; 8] {
         let [a, b, c, d, e, f] = running.readings;
         [running.step, a, b, c, d, e, f, running.counter]
+    }
+
+    fn refusal(refusal: Refusal) -> [u64; 4] {
+        [refusal.fault as u64, refusal.place as u64, 0, 0]
     }
 
     pub fn log_in(counter: u16, running: &mut [u16]) -> bool {
@@ -115,7 +160,28 @@ pub mod entries {
                 [0; 4]
             }
             Ok(Verdict::TurnedAway(guard)) => [0, guard as u64, 0, 0],
-            Err(Refusal { fault, place }) => [fault as u64, place as u64, 0, 0],
+            Err(refused) => refusal(refused),
+        };
+        true
+    }
+
+    pub fn tray(
+        table: &[u8],
+        counters: &[u16],
+        running: &mut [u16],
+        verdicts: &mut [u16],
+        answer: &mut [u64],
+    ) -> bool {
+        let (Some(record), Some(answer)) = (running.first_chunk_mut(), answer.first_chunk_mut())
+        else {
+            return false;
+        };
+        *answer = match super::tray(table, row(*record), counters, verdicts) {
+            Ok((after, accepted)) => {
+                *record = numbers(after);
+                [0, accepted as u64, 0, 0]
+            }
+            Err(refused) => refusal(refused),
         };
         true
     }

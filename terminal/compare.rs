@@ -3,7 +3,8 @@
 //! filled with random numbers before a call, so that what must be kept is seen to be kept. Where a loop is answered each side's
 //! loop is held to 01's definition, since which one is written is free. Windows are also held to shortest paths over all demands
 //! (plain/windows.rs), and each second to the exact fraction that it stands for, in whole numbers. Then log-in and scans: those
-//! that are known, shifts of random tables, and running records of all kinds.
+//! that are known, shifts of random tables, and running records of all kinds; and trays of scans, each also held to the same scans
+//! given singly.
 //!
 //! Prints counts and "compare: N agreed, 0 differ". Exit status 1 where something differs, or where a kind of answer did not
 //! occur.
@@ -18,6 +19,8 @@ mod plain;
 mod scan;
 #[path = "../plain/scans.rs"]
 mod scans;
+#[path = "tray.rs"]
+mod tray;
 #[path = "../plain/windows.rs"]
 mod windows;
 
@@ -56,6 +59,7 @@ struct Side {
     /// Log-in, which writes a running record.
     begin: fn(u16, &mut [u16]) -> bool,
     scan: fn(&[u8], u16, &mut [u16], &mut [u64]) -> bool,
+    tray: fn(&[u8], &[u16], &mut [u16], &mut [u16], &mut [u64]) -> bool,
 }
 
 impl Side {
@@ -83,6 +87,7 @@ const PROVED: Side = Side {
     widest: panel::widest,
     begin: scan::log_in,
     scan: scan::one,
+    tray: tray::scan,
 };
 
 const PLAIN: Side = Side {
@@ -101,6 +106,7 @@ const PLAIN: Side = Side {
     widest: entries::widest,
     begin: scans::entries::log_in,
     scan: scans::entries::scan,
+    tray: scans::entries::tray,
 };
 
 /// Random numbers from a fixed seed (splitmix64).
@@ -125,6 +131,10 @@ impl Random {
 
     fn room(&mut self, len: usize) -> Vec<u64> {
         (0..len).map(|_| self.next()).collect()
+    }
+
+    fn row(&mut self, len: usize) -> Vec<u16> {
+        (0..len).map(|_| self.next() as u16).collect()
     }
 
     fn bytes(&mut self, len: usize, most: usize) -> Vec<u8> {
@@ -348,6 +358,8 @@ struct Compare {
     longest_loop: usize,
     /// Seconds that were held to their fractions.
     seconds: u64,
+    /// Scans that were given in trays: accepted, and turned away.
+    in_trays: [u64; 2],
 }
 
 /// The rooms of a plan, and what was answered.
@@ -1213,9 +1225,7 @@ impl Compare {
     /// Rooms of these lengths, running and answer, with places around them. The first places of the one hold a record, as far as
     /// they go; all others any numbers.
     fn scan_rooms(&mut self, record: Record, [running, answer]: [usize; 2]) -> Scan {
-        let mut running: Vec<u16> = (0..running + 2 * AROUND)
-            .map(|_| self.random.next() as u16)
-            .collect();
+        let mut running = self.random.row(running + 2 * AROUND);
         for (place, number) in lent(&mut running).iter_mut().zip(record) {
             *place = number;
         }
@@ -1292,15 +1302,41 @@ impl Compare {
             format_args!("{:?}", told[0]),
             format_args!("{:?}", told[1]),
         );
+        let verdict = [answer[1] as u16];
+        let as_tray = match known {
+            Judged::Refused(number, place) => Trayed::Refused(number, place),
+            _ => Trayed::Judged(&verdict, after),
+        };
+        self.named_tray(bytes, record, &[counter], 1, as_tray);
         after
     }
 
-    /// Log-in at a counter, and then scans that are known.
+    /// Log-in at a counter, and then scans that are known, given singly and in two trays, cut at each place.
     fn named_shift(&mut self, bytes: &[u8], first: u16, scans: &[(u16, Judged)]) {
         self.log_in(first, 8);
-        let mut running = record(1, &[], first);
-        for &(counter, known) in scans {
-            running = self.named_scan(bytes, running, counter, known);
+        let mut records = vec![record(1, &[], first)];
+        let (mut counters, mut verdicts) = (Vec::new(), Vec::new());
+        for (i, &(counter, known)) in scans.iter().enumerate() {
+            records.push(self.named_scan(bytes, records[i], counter, known));
+            counters.push(counter);
+            verdicts.push(match known {
+                Judged::TurnedAway(guard) => guard as u16,
+                _ => 0,
+            });
+        }
+        let end = scans.len();
+        for cut in 0..=end {
+            for (from, to) in [(0, cut), (cut, end)] {
+                let known = Trayed::Judged(&verdicts[from..to], records[to]);
+                let more = self.random.within(0, 2);
+                self.named_tray(
+                    bytes,
+                    records[from],
+                    &counters[from..to],
+                    to - from + more,
+                    known,
+                );
+            }
         }
     }
 
@@ -1384,6 +1420,7 @@ impl Compare {
             self.named_shift(s.bytes, first, &scans);
             for _ in 0..40 {
                 self.shift(s.bytes, 40);
+                self.shift_in_trays(s.bytes, 5);
             }
         }
     }
@@ -1622,6 +1659,10 @@ impl Compare {
                 record(65535, &[65535; 6], 65535),
             ] {
                 self.named_scan(&bytes, running, 9, refused);
+                let refused = Trayed::Refused(number, place);
+                self.named_tray(&bytes, running, &[], 0, refused);
+                self.named_tray(&bytes, running, &[9; 2], 1, refused);
+                self.named_tray(&bytes, running, &[9; 257], 256, refused);
                 for lens in [[7, 4], [8, 3], [0, 0]] {
                     self.scan(&bytes, running, 9, lens);
                 }
@@ -1690,8 +1731,8 @@ impl Compare {
         found.unwrap_or(running[7].wrapping_add(passed[0]))
     }
 
-    /// Any record with a table's bytes, at any counter.
-    fn any_scan(&mut self, bytes: &[u8]) {
+    /// Any record for a table's bytes.
+    fn any_record(&mut self, bytes: &[u8]) -> Record {
         let steps = plain::read(bytes).map_or(3, |c| c.steps);
         let step = match self.random.within(0, 9) {
             0 => [0, steps + 1, 65535, self.random.within(0, 65535)][self.random.within(0, 3)],
@@ -1704,22 +1745,360 @@ impl Compare {
             2 if unfit => [4002, 65535, self.random.next() as u16][self.random.within(0, 2)],
             _ => self.random.within(0, 50) as u16,
         });
-        let first = self.random.next() as u16;
-        let passed = match self.random.within(0, 3) {
+        record(step, &readings, self.random.next() as u16)
+    }
+
+    /// Ticks that may pass before a scan.
+    fn any_ticks(&mut self) -> u16 {
+        match self.random.within(0, 3) {
             0 => self.random.next() as u16,
             1 => self.random.within(3990, 4010) as u16,
             _ => self.random.within(0, 50) as u16,
-        };
+        }
+    }
+
+    /// Any record with a table's bytes, at any counter.
+    fn any_scan(&mut self, bytes: &[u8]) {
+        let running = self.any_record(bytes);
+        let counter = running[7].wrapping_add(self.any_ticks());
         let more = self.random.within(0, 3);
-        let running = record(step, &readings, first);
-        let counter = first.wrapping_add(passed);
         self.scan(bytes, running, counter, [8 + more, 4 + more]);
+    }
+}
+
+// Trays.
+
+/// The rooms of a tray, with places around them.
+#[derive(Clone, PartialEq, Debug)]
+struct Tray {
+    answer: Vec<u64>,
+    running: Vec<u16>,
+    verdicts: Vec<u16>,
+}
+
+impl Tray {
+    fn ask(&self, side: &Side, bytes: &[u8], counters: &[u16]) -> (bool, Tray) {
+        let mut t = self.clone();
+        let told = (side.tray)(
+            bytes,
+            counters,
+            lent(&mut t.running),
+            lent(&mut t.verdicts),
+            lent(&mut t.answer),
+        );
+        (told, t)
+    }
+
+    /// What a tray comes to by its scans given singly, where there is room for the record and the answer.
+    fn singly(&self, side: &Side, bytes: &[u8], counters: &[u16]) -> Tray {
+        let mut t = self.clone();
+        let (running, verdicts) = (lent(&mut t.running), lent(&mut t.verdicts));
+        let mut answer = [9; 4];
+        // What the table or the record is refused with. The scan is not kept.
+        (side.scan)(bytes, 0, &mut running.to_vec(), &mut answer);
+        if answer[0] == 0 {
+            answer = if counters.len() > 256 {
+                [18, 0, 0, 0]
+            } else if counters.len() > verdicts.len() {
+                [19, 0, 0, 0]
+            } else {
+                let mut accepted = 0;
+                for (&counter, verdict) in counters.iter().zip(verdicts) {
+                    (side.scan)(bytes, counter, running, &mut answer);
+                    accepted += u64::from(answer == [0; 4]);
+                    *verdict = answer[1] as u16;
+                }
+                [0, accepted, 0, 0]
+            };
+        }
+        lent(&mut t.answer)[..4].copy_from_slice(&answer);
+        t
+    }
+}
+
+/// The first counters of a tray, to show them.
+fn first(counters: &[u16]) -> &[u16] {
+    &counters[..counters.len().min(20)]
+}
+
+/// What is known of a tray: the verdicts and the record after it, or the number and the place of a refusal.
+#[derive(Clone, Copy, Debug)]
+enum Trayed<'a> {
+    Judged(&'a [u16], Record),
+    Refused(u64, u64),
+}
+
+impl Compare {
+    /// Rooms of these lengths, running, verdicts and answer, as for a scan.
+    fn tray_rooms(&mut self, record: Record, [running, verdicts, answer]: [usize; 3]) -> Tray {
+        let Scan { running, answer } = self.scan_rooms(record, [running, answer]);
+        let verdicts = self.random.row(verdicts + 2 * AROUND);
+        Tray {
+            answer,
+            running,
+            verdicts,
+        }
+    }
+
+    /// A tray, with rooms of these lengths, running, verdicts and answer; on each side also held to the same scans given singly.
+    /// The record after it, where there is room for it.
+    fn tray(&mut self, bytes: &[u8], record: Record, counters: &[u16], lens: [usize; 3]) -> Record {
+        let before = self.tray_rooms(record, lens);
+        let (told_a, a) = before.ask(&PROVED, bytes, counters);
+        let (told_b, mut b) = before.ask(&PLAIN, bytes, counters);
+        let roomy = lens[0] >= 8 && lens[2] >= 4;
+        let number = counters.len();
+        self.tell(
+            (told_a, told_b) == (roomy, roomy) && a == b && (roomy || b == before),
+            bytes,
+            format_args!(
+                "tray of {number} at {:?} of {record:?}, rooms {lens:?}",
+                first(counters)
+            ),
+            format_args!("{told_a} {a:?}"),
+            format_args!("{told_b} {b:?}"),
+        );
+        if !roomy {
+            self.saw("tray: a room too short".into());
+            return record;
+        }
+        let singly = [PROVED, PLAIN].map(|side| before.singly(&side, bytes, counters));
+        self.tell(
+            a == singly[0] && b == singly[1],
+            bytes,
+            format_args!(
+                "tray of {number} at {:?} of {record:?}, beside single scans",
+                first(counters)
+            ),
+            format_args!("{a:?}, singly {:?}", singly[0]),
+            format_args!("{b:?}, singly {:?}", singly[1]),
+        );
+        let answer = &lent(&mut b.answer)[..4];
+        self.saw_refusal("tray", answer);
+        if let [0, accepted, ..] = *answer {
+            let accepted = accepted as usize;
+            self.in_trays[0] += accepted as u64;
+            self.in_trays[1] += (number - accepted) as u64;
+            let kind = match (accepted, number) {
+                (0, 0) => "no scan",
+                (0, _) => "none accepted",
+                (256, _) => "256 accepted",
+                (_, 256) => "some of 256 accepted",
+                _ if accepted == number => "all accepted",
+                _ => "some accepted",
+            };
+            self.saw(format!("tray: {kind}"));
+        }
+        std::array::from_fn(|i| lent(&mut b.running)[i])
+    }
+
+    /// Both sides judge a tray as is known, with a room for so many verdicts.
+    fn named_tray(
+        &mut self,
+        bytes: &[u8],
+        record: Record,
+        counters: &[u16],
+        places: usize,
+        known: Trayed,
+    ) {
+        let before = self.tray_rooms(record, [8, places, 4]);
+        let mut expected = before.clone();
+        let answer = match known {
+            Trayed::Judged(verdicts, after) => {
+                lent(&mut expected.running).copy_from_slice(&after);
+                lent(&mut expected.verdicts)[..verdicts.len()].copy_from_slice(verdicts);
+                let accepted = verdicts.iter().filter(|&&verdict| verdict == 0).count();
+                [0, accepted as u64, 0, 0]
+            }
+            Trayed::Refused(number, place) => [number, place, 0, 0],
+        };
+        lent(&mut expected.answer).copy_from_slice(&answer);
+        let told = [PROVED, PLAIN].map(|side| before.ask(&side, bytes, counters));
+        self.tell(
+            told.iter().all(|t| *t == (true, expected.clone())),
+            bytes,
+            format_args!(
+                "tray of {} at {:?} of {record:?}, room {places}, known {known:?}",
+                counters.len(),
+                first(counters)
+            ),
+            format_args!("{:?}", told[0]),
+            format_args!("{:?}", told[1]),
+        );
+    }
+
+    /// Trays at which a judge goes wrong easily.
+    fn trays_known(&mut self) {
+        use Trayed::Judged;
+        let s1 = SAMPLES[0].bytes;
+        let begun = |counter| record(1, &[], counter);
+        // One is turned away in the middle, and the next goes on from the record as it was.
+        let known = Judged(&[1, 0], record(1, &[0], 3));
+        self.named_tray(s1, begun(0), &[1, 3], 2, known);
+        let known = Judged(&[0, 1, 1, 0, 1], record(1, &[0], 6));
+        self.named_tray(s1, begun(0), &[3, 4, 5, 6, 8], 5, known);
+        // No scan, and no change, whatever the record is that can go on.
+        let kept = [1, 4001, 9999, 65535, 4002, 0, 1, 65535];
+        for places in [0, 1, 256, 300] {
+            self.named_tray(s1, begun(7), &[], places, Judged(&[], begun(7)));
+            self.named_tray(s1, kept, &[], places, Judged(&[], kept));
+        }
+        // As many as there can be: all accepted, all but the first or the last, every other one, none.
+        let every_three: Vec<u16> = (1..=256).map(|i| 65000_u16.wrapping_add(3 * i)).collect();
+        let known = Judged(&[0; 256], record(1, &[0], every_three[255]));
+        self.named_tray(s1, begun(65000), &every_three, 256, known);
+        let (most, after) = (&every_three[..255], record(1, &[0], every_three[254]));
+        let (soon, verdicts) = ([&[65002], most].concat(), [vec![1], vec![0; 255]].concat());
+        self.named_tray(s1, begun(65000), &soon, 256, Judged(&verdicts, after));
+        let (soon, verdicts) = (
+            [most, &[every_three[255] - 1]].concat(),
+            [vec![0; 255], vec![1]].concat(),
+        );
+        self.named_tray(s1, begun(65000), &soon, 256, Judged(&verdicts, after));
+        let every_two: Vec<u16> = (1..=256).map(|i| 65000_u16.wrapping_add(2 * i)).collect();
+        let verdicts: Vec<u16> = [1, 0].repeat(128);
+        let after = record(1, &[0], every_two[255]);
+        self.named_tray(s1, begun(65000), &every_two, 256, Judged(&verdicts, after));
+        self.named_tray(s1, begun(7), &[9; 256], 256, Judged(&[1; 256], begun(7)));
+        // Ticks are measured from the last accepted scan, round the circle too, and not from the neighbour.
+        let hundred = table(1, &[vec![guard(1, EXACTLY, 100), reset(1)]]);
+        let counters = [65530, 65535, 10, 60, 64, 100, 163, 164];
+        let known = Judged(&[1, 1, 1, 1, 0, 1, 1, 0], record(1, &[0], 164));
+        self.named_tray(&hundred, begun(65500), &counters, 8, known);
+        let slow = table(1, &[vec![guard(1, AT_LEAST, 4000)]]);
+        let mut counters: Vec<u16> = (1..=255).map(|i| 64000_u16.wrapping_add(15 * i)).collect();
+        counters.push(64000_u16.wrapping_add(4000));
+        let verdicts = [vec![1; 255], vec![0]].concat();
+        let known = Judged(&verdicts, record(1, &[4000], counters[255]));
+        self.named_tray(&slow, begun(64000), &counters, 256, known);
+        // Up to 65,535 ticks after it.
+        let soon = table(1, &[vec![guard(1, AT_LEAST, 0), guard(1, AT_MOST, 10)]]);
+        let counters: Vec<u16> = (1..=255).map(|i| 9_u16.wrapping_add(257 * i)).collect();
+        self.named_tray(&soon, begun(9), &counters, 255, Judged(&[2; 255], begun(9)));
+        let long = table(1, &[vec![guard(1, OVER, 4000), reset(1)]]);
+        let counters = [4000, 65535, 3999, 0, 65534, 65533];
+        let known = Judged(&[1, 0, 1, 1, 0, 0], record(1, &[0], 65533));
+        self.named_tray(&long, begun(0), &counters, 6, known);
+        // Each of 64 guards, the last one first.
+        let crowd = (1..=64).map(|b| guard(1, AT_MOST, 165 - b)).collect();
+        let crowd = table(1, &[crowd]);
+        let counters: Vec<u16> = (101..=165).collect();
+        let verdicts: Vec<u16> = [0].into_iter().chain((1..=64).rev()).collect();
+        let known = Judged(&verdicts, record(1, &[101], 101));
+        self.named_tray(&crowd, begun(0), &counters, 65, known);
+    }
+
+    /// Trays and rooms for verdicts at their limits, and what is refused first.
+    fn trays_refused(&mut self) {
+        use Trayed::{Judged, Refused};
+        let s1 = SAMPLES[0].bytes;
+        let (begun, unfit) = (record(1, &[], 0), record(2, &[], 0));
+        for number in [1, 2, 3, 255, 256] {
+            let counters: Vec<u16> = (1..=number as u16).map(|i| 3 * i).collect();
+            let after = record(1, &[], 3 * number as u16);
+            let known = Judged(&[0; 256][..number], after);
+            for more in [0, 1, 2, 300] {
+                self.named_tray(s1, begun, &counters, number + more, known);
+            }
+            for places in [0, number / 2, number - 1] {
+                self.named_tray(s1, begun, &counters, places, Refused(19, 0));
+                self.named_tray(s1, unfit, &counters, places, Refused(17, 0));
+            }
+            self.named_tray(s1, unfit, &counters, number, Refused(17, 0));
+        }
+        // Lengths that are 0, 1 or 256 in a byte or in two.
+        for number in [257, 258, 300, 511, 512, 513, 65535, 65536, 65537, 65792] {
+            let counters = vec![3; number];
+            for places in [0, 256, number - 1, number, number + 1] {
+                self.named_tray(s1, begun, &counters, places, Refused(18, 0));
+                self.named_tray(s1, unfit, &counters, places, Refused(17, 0));
+            }
+        }
+        for unfit in [unfit, record(0, &[], 0), record(1, &[4002], 0)] {
+            for places in [0, 1, 256] {
+                self.named_tray(s1, unfit, &[], places, Refused(17, 0));
+            }
+        }
+    }
+
+    /// Rooms of all lengths that matter: of trays that are judged and refused.
+    fn tray_rooms_known(&mut self) {
+        let s1 = SAMPLES[0].bytes;
+        for running in 0..=12 {
+            for answer in 0..=7 {
+                for verdicts in 0..=4 {
+                    let lens = [running, verdicts, answer];
+                    for number in 0..=3 {
+                        self.tray(s1, record(1, &[0], 0), &[2, 3, 6][..number], lens);
+                        self.tray(s1, record(2, &[0], 0), &[2, 3, 6][..number], lens);
+                    }
+                    self.tray(s1, record(1, &[0], 0), &[3; 257], lens);
+                }
+            }
+        }
+    }
+
+    /// How many scans a tray has: few, as many as there can be, or too many.
+    fn tray_size(&mut self) -> usize {
+        match self.random.within(0, 11) {
+            0 => self.random.within(0, 1),
+            1 => 256,
+            2 => self.random.within(250, 256),
+            3 => self.random.within(257, 260),
+            4 => self.random.within(20, 250),
+            _ => self.random.within(2, 20),
+        }
+    }
+
+    /// Lengths of the rooms of a tray of so many scans, mostly long enough.
+    fn tray_lens(&mut self, number: usize) -> [usize; 3] {
+        let more = self.random.within(0, 3);
+        match self.random.within(0, 15) {
+            0 => [self.random.within(0, 12), number, self.random.within(0, 7)],
+            1 => [8, number.saturating_sub(1), 4],
+            2 => [8, self.random.within(0, number), 4],
+            _ => [8 + more, number + more, 4 + more],
+        }
+    }
+
+    /// A shift in so many trays, with counters as in one of single scans.
+    fn shift_in_trays(&mut self, bytes: &[u8], trays: usize) {
+        let Ok(table) = plain::Table::parse(bytes) else {
+            return;
+        };
+        let mut running = record(1, &[], self.random.next() as u16);
+        for _ in 0..trays {
+            let number = self.tray_size();
+            let mut now = running;
+            let mut counters = Vec::new();
+            for _ in 0..number {
+                let counter = self.counter(&table, bytes, now);
+                scans::entries::scan(bytes, counter, &mut now, &mut [9; 4]);
+                counters.push(counter);
+            }
+            let lens = self.tray_lens(number);
+            running = self.tray(bytes, running, &counters, lens);
+        }
+    }
+
+    /// Any record with a table's bytes, and a tray at any counters.
+    fn any_tray(&mut self, bytes: &[u8]) {
+        let running = self.any_record(bytes);
+        let number = self.tray_size();
+        let mut counter = running[7];
+        let mut counters = Vec::new();
+        for _ in 0..number {
+            counter = counter.wrapping_add(self.any_ticks());
+            counters.push(counter);
+        }
+        let lens = self.tray_lens(number);
+        self.tray(bytes, running, &counters, lens);
     }
 }
 
 /// What must occur: every refusal, and in both variants every kind of answer.
 fn kinds() -> impl Iterator<Item = String> {
-    let refusals = (1..=17).map(|number| format!("refusal {number:2}"));
+    let refusals = (1..=19).map(|number| format!("refusal {number:2}"));
     let answers = STARTS.into_iter().flat_map(|start| {
         [
             ("rounds", "without end"),
@@ -1749,14 +2128,26 @@ fn kinds() -> impl Iterator<Item = String> {
         "scan: refused",
         "scan: a room too short",
     ];
+    let trays = [
+        "tray: no scan",
+        "tray: none accepted",
+        "tray: some accepted",
+        "tray: some of 256 accepted",
+        "tray: all accepted",
+        "tray: 256 accepted",
+        "tray: refused",
+        "tray: a room too short",
+    ];
     refusals
         .chain(answers)
         .chain(panel.map(String::from))
         .chain(scans.map(String::from))
+        .chain(trays.map(String::from))
 }
 
 fn main() {
-    let (legal_tables, damaged_tables, panel_tables, scan_tables) = (4000, 4000, 6000, 8000);
+    let (legal_tables, damaged_tables, panel_tables) = (4000, 4000, 6000);
+    let (scan_tables, tray_tables) = (8000, 4000);
     let mut compare = Compare {
         random: Random(20),
         agreed: 0,
@@ -1764,6 +2155,7 @@ fn main() {
         seen: BTreeMap::new(),
         longest_loop: 0,
         seconds: 0,
+        in_trays: [0; 2],
     };
     for s in &SAMPLES {
         compare.sample(s);
@@ -1812,9 +2204,23 @@ fn main() {
             compare.any_scan(&bytes);
         }
     }
+    compare.trays_known();
+    compare.trays_refused();
+    compare.tray_rooms_known();
+    for _ in 0..tray_tables {
+        let bytes = legal(&mut compare.random);
+        compare.shift_in_trays(&bytes, 5);
+        for _ in 0..5 {
+            compare.any_tray(&bytes);
+        }
+        let bytes = damaged(&mut compare.random);
+        for _ in 0..2 {
+            compare.any_tray(&bytes);
+        }
+    }
     println!(
         "{} samples and the limits, {legal_tables} legal tables, {damaged_tables} damaged ones, {panel_tables} for the panel, \
-         {scan_tables} of both sorts for scans",
+         {scan_tables} of both sorts for scans and {tray_tables} for trays",
         SAMPLES.len()
     );
     for (what, number) in &compare.seen {
@@ -1822,6 +2228,8 @@ fn main() {
     }
     println!("longest loop: {} moments", compare.longest_loop);
     println!("seconds held to their fractions: {}", compare.seconds);
+    let [accepted, turned_away] = compare.in_trays;
+    println!("scans in trays: {accepted} accepted, {turned_away} turned away");
     let missing: Vec<String> = kinds()
         .filter(|kind| !compare.seen.contains_key(kind))
         .collect();

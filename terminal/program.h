@@ -56,6 +56,7 @@ static const char *reason(uint64_t refusal)
         "the room for moments is too short", "the room for starts is too short", "the room for a loop is too short",
         "the room for demands is too short", "the clock is reset already in the same step",
         "the running record fits no step of the table, or has a reading above 4,001",
+        "there are more than 256 scans in the tray", "the room for verdicts is too short",
     };
     return refusal < sizeof reasons / sizeof *reasons ? reasons[refusal] : "for an unknown reason";
 }

@@ -1,13 +1,14 @@
-/* What a terminal shows for each scan of a shift as it comes; `usage` says how it is asked. */
+/* What a terminal shows for each scan of a shift as it comes, or for a tray of them; `usage` says how it is asked. */
 #include "program.h"
 #include "scan.h"
+#include "tray.h"
 
 #include <inttypes.h>
 
 enum { ACCEPTED = 0, TURNED_AWAY = 1, REFUSED = 2, TROUBLE = 3 };
 
 static const char usage[] =
-    "usage: scan [--record] [--from STEP,R1,..,R6,COUNTER] TABLE\n"
+    "usage: scan [--record] [--tray] [--from STEP,R1,..,R6,COUNTER] TABLE\n"
     "       scan --help\n"
     "\n"
     "The table is read from the file TABLE, and the rail's counters from standard input, one a line, as decimal numbers of 0 to\n"
@@ -21,17 +22,25 @@ static const char usage[] =
     "the last accepted scan, or log-in, and its counter. With --from, the shift goes on from such a record: there is no log-in,\n"
     "each counter is that of a scan, and rounds are counted from the record's own, as round 1.\n"
     "\n"
-    "Exit status: 0 all scans are accepted; 1 some are turned away; 2 the table or the record is refused; 3 the program could\n"
-    "not ask, or some line is no counter.\n";
+    "With --tray, all scans, up to 256, are handed over together, as after a gap in the network. They are shown once the last is\n"
+    "read, each as above, and then how many are accepted, and with --record the record after them. Where some line is no counter,\n"
+    "no scan is handed over.\n"
+    "\n"
+    "Exit status: 0 all scans are accepted; 1 some are turned away; 2 the table, the record or the tray is refused; 3 the program\n"
+    "could not ask, or some line is no counter.\n";
 
 /* Steps of a round, and the round that the next step is of. */
 static uint64_t steps, rounds = 1;
 
-static bool shown_record;
+static bool shown_record, in_tray;
 
 /* The running record, once there is one. */
 static bool running_now;
 static uint16_t running[SCAN_RUNNING];
+
+/* The counters of a tray, and one more, so that a larger tray is seen to be larger. */
+static uint16_t tray[TRAY_COUNTERS + 1];
+static size_t tray_len;
 
 /* A record from the command line, which is cut up. */
 static bool given_record(char *text)
@@ -128,14 +137,10 @@ static void show_guard(const uint8_t *bytes, uint16_t counter)
     printf("%s", held ? " or more" : "");
 }
 
-static int show_scan(uint16_t counter)
+/* What a scan at a step came to: 0, accepted; or the number of the guard that turned it away, and the record stayed. */
+static int show_verdict(uint16_t counter, uint16_t step, uint64_t verdict)
 {
-    uint64_t answer[SCAN_ANSWER];
-    uint16_t step = running[SCAN_STEP];
-    scan_one(table, table_len, counter, ROOM(running), ROOM(answer));
-    if (answer[0] != 0)
-        return show_refusal(answer);
-    bool accepted = answer[1] == 0;
+    bool accepted = verdict == 0;
     printf("scan at %" PRIu16 ": %s, round %" PRIu64 " step %" PRIu16, counter, accepted ? "accepted" : "turned away", rounds,
            step);
     if (accepted) {
@@ -143,8 +148,8 @@ static int show_scan(uint16_t counter)
         rounds += step == steps;
         return ACCEPTED;
     }
-    const uint8_t *bytes = guard(answer[1]);
-    printf(", guard %" PRIu64 ": ", answer[1]);
+    const uint8_t *bytes = guard(verdict);
+    printf(", guard %" PRIu64 ": ", verdict);
     if (bytes == NULL) {
         printf("there is none\n");
         return TROUBLE;
@@ -152,6 +157,45 @@ static int show_scan(uint16_t counter)
     show_guard(bytes, counter);
     printf("\n");
     return TURNED_AWAY;
+}
+
+static int show_scan(uint16_t counter)
+{
+    uint64_t answer[SCAN_ANSWER];
+    uint16_t step = running[SCAN_STEP];
+    scan_one(table, table_len, counter, ROOM(running), ROOM(answer));
+    return answer[0] != 0 ? show_refusal(answer) : show_verdict(counter, step, answer[1]);
+}
+
+/* The scans of the tray, by their verdicts. What a clock read is told by the record before the scan: those that were accepted are
+ * given once more, singly. */
+static int show_verdicts(const uint16_t *verdicts)
+{
+    uint64_t answer[SCAN_ANSWER];
+    int status = ACCEPTED;
+    for (size_t i = 0; i < tray_len; i++) {
+        uint16_t step = running[SCAN_STEP];
+        if (verdicts[i] == 0)
+            scan_one(table, table_len, tray[i], ROOM(running), ROOM(answer));
+        int shown = show_verdict(tray[i], step, verdicts[i]);
+        if (shown > status)
+            status = shown;
+    }
+    return status;
+}
+
+static int show_tray(void)
+{
+    uint64_t answer[SCAN_ANSWER];
+    uint16_t verdicts[TRAY_COUNTERS], after[SCAN_RUNNING];
+    memcpy(after, running, sizeof after);
+    tray_scan(table, table_len, tray, tray_len, ROOM(after), ROOM(verdicts), ROOM(answer));
+    if (answer[0] != 0)
+        return show_refusal(answer);
+    int status = show_verdicts(verdicts);
+    memcpy(running, after, sizeof running);
+    printf("tray: %" PRIu64 " of %zu scan%s accepted\n", answer[1], tray_len, plural(tray_len));
+    return status;
 }
 
 static int show_log_in(uint16_t counter)
@@ -172,13 +216,17 @@ static int show_line(enum line line, uint64_t at, uint16_t counter)
     return running_now ? show_scan(counter) : show_log_in(counter);
 }
 
-/* All lines, up to one that is refused. Each is shown before the next is read. */
+/* All lines, up to one that is refused. Each is shown before the next is read, but for the scans of a tray. */
 static int show_shift(void)
 {
     uint16_t counter = 0;
     enum line line;
     int status = ACCEPTED;
-    for (uint64_t at = 1; status != REFUSED && (line = read_line(&counter)) != NO_LINE; at++) {
+    for (uint64_t at = 1; status != REFUSED && tray_len <= TRAY_COUNTERS && (line = read_line(&counter)) != NO_LINE; at++) {
+        if (in_tray && running_now && line == COUNTER) {
+            tray[tray_len++] = counter;
+            continue;
+        }
         int shown = show_line(line, at, counter);
         if (shown == REFUSED || shown > status)
             status = shown;
@@ -190,6 +238,11 @@ static int show_shift(void)
     if (ferror(stdin)) {
         fprintf(stderr, "scan: cannot read the counters\n");
         return TROUBLE;
+    }
+    if (in_tray && running_now && status == ACCEPTED) {
+        status = show_tray();
+        if (shown_record)
+            show_record();
     }
     return status;
 }
@@ -213,6 +266,8 @@ int main(int argc, char **argv)
     for (; asked && next < argc && argv[next][0] == '-'; next++)
         if (strcmp(argv[next], "--record") == 0)
             shown_record = true;
+        else if (strcmp(argv[next], "--tray") == 0)
+            in_tray = true;
         else
             asked = strcmp(argv[next], "--from") == 0 && ++next < argc && given_record(argv[next]);
     if (!asked || next + 1 != argc) {

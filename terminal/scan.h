@@ -1,7 +1,8 @@
 /* Each scan of a shift, judged as it comes by a timing table, answered by the proved library libscan.a.
  *
  * Tables, clocks, steps, guards and resets are those of judge.h, with n for the clocks of a table and L for its steps. A scan
- * brings the rail's counter, which counts ticks in 16 bits and starts again after 65,535.
+ * brings the rail's counter, which counts ticks in 16 bits and starts again after 65,535. Scans that have gathered are
+ * handed over together by tray.h.
  *
  * The running record: what a terminal holds for a table from log-in on, a row of 8 numbers
  *   - running[0] is the next step, 1 to L. After step L it is step 1 again.

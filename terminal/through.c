@@ -1,8 +1,9 @@
-/* The entries, called as judge.h, panel.h and scan.h declare them: compare.rs, trials.rs and bench.rs link this file and call the
- * libraries through it. */
+/* The entries, called as judge.h, panel.h, scan.h and tray.h declare them: compare.rs, trials.rs and bench.rs link this file and
+ * call the libraries through it. */
 #include "judge.h"
 #include "panel.h"
 #include "scan.h"
+#include "tray.h"
 
 bool through_read(const uint8_t *table, size_t table_len, uint64_t *answer, size_t answer_len)
 {
@@ -66,6 +67,12 @@ bool through_scan(const uint8_t *table, size_t table_len, uint16_t counter, uint
     return scan_one(table, table_len, counter, running, running_len, answer, answer_len);
 }
 
+bool through_tray(const uint8_t *table, size_t table_len, const uint16_t *counters, size_t counters_len, uint16_t *running,
+                  size_t running_len, uint16_t *verdicts, size_t verdicts_len, uint64_t *answer, size_t answer_len)
+{
+    return tray_scan(table, table_len, counters, counters_len, running, running_len, verdicts, verdicts_len, answer, answer_len);
+}
+
 /* No argument and no result is converted on the way. */
 #define SAME(declared, ours) _Static_assert(_Generic(&declared, __typeof__(&ours): 1, default: 0), #declared)
 SAME(judge_read, through_read);
@@ -79,6 +86,7 @@ SAME(panel_windows, through_windows);
 SAME(panel_widest, through_widest);
 SAME(scan_log_in, through_log_in);
 SAME(scan_one, through_scan);
+SAME(tray_scan, through_tray);
 
 /* The record as panel.rs has it: five places of eight bytes, in this order. */
 #define AT(field, number, type)                                                                            \

@@ -1,8 +1,8 @@
 //! Holds the proved library's answers to "rounds" and "plan" against a search over clock readings: thousands of small random
 //! tables, each asked for its rounds, and for plans of 1 to 5 rounds, from log-in and in mid-shift. The search shares nothing with
 //! the library or plain.rs. Also holds the two variants against each other, in counts, plans and demands. The panel's windows, of
-//! rounds of few steps, are held against a search over all rows of moments. And each scan of a shift is held against 01's rules of
-//! a run, by true times, which go on where the rail's counter starts again.
+//! rounds of few steps, are held against a search over all rows of moments. And each scan of a shift, given singly or in a tray, is
+//! held against 01's rules of a run, by true times, which go on where the rail's counter starts again.
 //!
 //! Prints how many tables and answers there were of each kind, and the first tables on which the two differ, with the question
 //! and the difference. Exit status 1 where one differs.
@@ -14,6 +14,8 @@ mod judge;
 mod panel;
 #[path = "scan.rs"]
 mod scan;
+#[path = "tray.rs"]
+mod tray;
 
 use std::array::from_fn;
 
@@ -654,10 +656,17 @@ impl Table {
 
 // Shifts, by true times: whole ticks since log-in, where every clock reads 0. Scans are counted from 0.
 
-/// How many numbers the rail's counter has, the most scans of a shift, and how much larger the constants are in every other one.
+/// How many numbers the rail's counter has, the most scans of a shift and of a tray, and how much larger the constants are in every
+/// other shift.
 const CIRCLE: u64 = 65536;
 const SCANS: usize = 40;
+const TRAY: usize = 12;
 const STRETCH: u64 = 1333;
+
+/// What the rail's counter shows at a time, where it shows `first` at log-in.
+fn counter(first: u64, time: u64) -> u16 {
+    ((first + time) % CIRCLE) as u16
+}
 
 impl Table {
     /// The time of a clock's last reset at a scan before scan i; if there was none, that of log-in.
@@ -677,6 +686,17 @@ impl Table {
     /// Whether scans at these times are a run: times never decrease, and every guard of every scan holds.
     fn keeps_rules(&self, times: &[u64]) -> bool {
         times.is_sorted() && (0..times.len()).all(|i| self.failing(times, i).is_none())
+    }
+
+    /// The record after accepted scans at these times, by a rail that shows `first` at log-in.
+    fn record(&self, times: &[u64], first: u64) -> [u16; 8] {
+        let last = times.last().map_or(0, |&time| time);
+        from_fn(|place| match place {
+            0 => (times.len() % self.steps + 1) as u16,
+            7 => counter(first, last),
+            clock if clock > self.clocks => 0,
+            clock => (last - self.reset_time(times, clock - 1, times.len())).min(4001) as u16,
+        })
     }
 
     /// A time for the next scan after some that were accepted, from `now` up to `end`. Mostly one at which a guard begins to hold
@@ -822,7 +842,38 @@ fn refused_twice(bytes: &[u8], place: usize) -> Result<(), String> {
     let mut answer = [KEPT; 4];
     let told = scan::one(bytes, 1, &mut running, &mut answer);
     same("scan", told, answer, running == [KEPT as u16; 8])?;
+    let mut verdicts = [KEPT as u16; 2];
+    let mut answer = [KEPT; 4];
+    let told = tray::scan(bytes, &[1, 2], &mut running, &mut verdicts, &mut answer);
+    let all_kept = running == [KEPT as u16; 8] && verdicts == [KEPT as u16; 2];
+    same("tray", told, answer, all_kept)?;
     Ok(())
+}
+
+/// The verdict on a scan, or on each scan of a tray: 0 where it is accepted, or the number of the guard that turned it away.
+fn verdicts(
+    bytes: &[u8],
+    counters: &[u16],
+    running: &mut [u16],
+    in_tray: bool,
+) -> Result<Vec<u64>, String> {
+    let mut answer = [KEPT; 4];
+    if !in_tray {
+        let told = scan::one(bytes, counters[0], running, &mut answer);
+        return match (told, answer) {
+            (true, [0, guard, 0, 0]) => Ok(vec![guard]),
+            _ => Err(format!("scan: {told} {answer:?}")),
+        };
+    }
+    let mut row = [KEPT as u16; TRAY + 2];
+    let told = tray::scan(bytes, counters, running, &mut row, &mut answer);
+    let (first, rest) = row.split_at(counters.len());
+    let accepted = first.iter().filter(|&&verdict| verdict == 0).count();
+    let kept = rest.iter().all(|&place| place == KEPT as u16);
+    if told && answer == [0, accepted as u64, 0, 0] && kept {
+        return Ok(first.iter().map(|&verdict| verdict.into()).collect());
+    }
+    Err(format!("tray: {told} {answer:?}, verdicts {row:?}"))
 }
 
 /// What was seen in one variant, by kind; where there are five places, for 1 to 5 rounds.
@@ -855,7 +906,8 @@ struct Tally {
     /// Panels held against all rows of moments, and the windows on them: absent, open, closed.
     panels: u64,
     windows: [u64; 3],
-    shifts: Shifts,
+    /// Of single scans, and also with trays.
+    shifts: [Shifts; 2],
 }
 
 /// What was seen of shifts.
@@ -872,6 +924,9 @@ struct Shifts {
     /// Shifts of 65,536 ticks or more, and the longest.
     long: u64,
     longest: u64,
+    /// Trays without a scan, with none accepted, with some and with all, and how many scans there were in them.
+    trays: [u64; 4],
+    in_trays: u64,
 }
 
 /// A table that is asked about in a variant: the count of its rounds, and of those without strict guards.
@@ -974,57 +1029,66 @@ impl Tally {
         Ok(())
     }
 
-    /// A shift: log-in and scans, each beside the rules of a run by true times; and at its end all that were accepted.
-    fn shift(&mut self, table: &Table, random: &mut Random) -> Result<(), String> {
+    /// A shift: log-in and scans, at times some in a tray, each beside the rules of a run by true times; and at its end all that
+    /// were accepted.
+    fn shift(&mut self, table: &Table, random: &mut Random, trays: bool) -> Result<(), String> {
         let bytes = table.bytes();
-        let seen = &mut self.shifts;
+        let seen = &mut self.shifts[usize::from(trays)];
         seen.shifts += 1;
         let first = random.below(CIRCLE as usize) as u64;
-        let counter = |time: u64| ((first + time) % CIRCLE) as u16;
         let mut running = [KEPT as u16; 8];
-        if !scan::log_in(counter(0), &mut running) || running != [1, 0, 0, 0, 0, 0, 0, counter(0)] {
+        if !scan::log_in(first as u16, &mut running) || running != table.record(&[], first) {
             return Err(format!("log-in at {first}: {running:?}"));
         }
-        // The times of the accepted scans, and of the last scan.
-        let (mut times, mut now) = (Vec::new(), 0);
-        for _ in 0..SCANS {
-            // The last time at which the premise holds.
-            let end = times.last().map_or(0, |&time| time) + CIRCLE - 1;
-            now = table.draw_time(random, &times, now, end);
-            let before = running;
-            let mut answer = [KEPT; 4];
-            let told = scan::one(&bytes, counter(now), &mut running, &mut answer);
-            times.push(now);
-            let failing = table.failing(&times, times.len() - 1);
-            let expected = [0, failing.unwrap_or(0) as u64, 0, 0];
-            let record = match failing {
-                Some(_) => before,
-                None => from_fn(|place| match place {
-                    0 => (times.len() % table.steps + 1) as u16,
-                    7 => counter(now),
-                    clock if clock > table.clocks => 0,
-                    clock => {
-                        let reset = table.reset_time(&times, clock - 1, times.len());
-                        (now - reset).min(4001) as u16
-                    }
-                }),
+        // The times of the accepted scans, and of the last scan; the scans that are left.
+        let (mut times, mut now, mut left) = (Vec::new(), 0, SCANS);
+        while left > 0 {
+            let in_tray = trays && random.below(2) == 0;
+            let number = match in_tray {
+                true => random.below(left.min(TRAY) + 1),
+                false => 1,
             };
-            if !told || answer != expected || running != record {
+            let before = times.len();
+            let (mut counters, mut expected) = (Vec::new(), Vec::new());
+            for _ in 0..number {
+                // The last time at which the premise holds.
+                let last = times.last().map_or(0, |&time| time);
+                let end = last + CIRCLE - 1;
+                now = table.draw_time(random, &times, now, end);
+                times.push(now);
+                let failing = table.failing(&times, times.len() - 1);
+                counters.push(counter(first, now));
+                expected.push(failing.unwrap_or(0) as u64);
+                seen.started_again += u64::from(counter(first, now) < counter(first, last));
+                left -= 1;
+                if let Some(guard) = failing {
+                    times.pop();
+                    seen.turned_away[usize::from(guard > 1)] += 1;
+                    if now == end {
+                        left = 0;
+                        break;
+                    }
+                } else {
+                    seen.accepted += 1;
+                    seen.later_rounds += u64::from(times.len() > table.steps);
+                }
+            }
+            let told = verdicts(&bytes, &counters, &mut running, in_tray);
+            let record = table.record(&times, first);
+            if told.as_ref() != Ok(&expected) || running != record {
                 return Err(format!(
-                    "scan at {times:?} since log-in at {first}: {told} {answer:?}, record {running:?}, but by the rules of a run \
-                     {expected:?}, record {record:?}"
+                    "scans at {counters:?} since log-in at {first}: {told:?}, record {running:?}, but by the rules of a run \
+                     {expected:?}, record {record:?}, with {times:?} accepted"
                 ));
             }
-            seen.started_again += u64::from(counter(now) < before[7]);
-            if let Some(guard) = failing {
-                times.pop();
-                seen.turned_away[usize::from(guard > 1)] += 1;
-                if now == end {
-                    break;
-                }
-            } else {
-                seen.accepted += 1;
-                seen.later_rounds += u64::from(times.len() > table.steps);
+            if in_tray {
+                seen.in_trays += counters.len() as u64;
+                seen.trays[match times.len() - before {
+                    _ if counters.is_empty() => 0,
+                    0 => 1,
+                    accepted if accepted < counters.len() => 2,
+                    _ => 3,
+                }] += 1;
             }
         }
         let length = times.last().map_or(0, |&time| time);
@@ -1202,16 +1266,19 @@ impl Tally {
         Ok(())
     }
 
-    /// A table put to all questions, and two shifts of it: the first difference.
-    fn all(&mut self, table: &Table, bytes: &[u8], times: &mut Random) -> Result<(), String> {
+    /// A table put to all questions, two shifts of it, and two with trays: the first difference.
+    fn all(&mut self, table: &Table, bytes: &[u8], times: &mut [Random; 2]) -> Result<(), String> {
         self.table(table, bytes)?;
-        self.shift(table, times)?;
-        self.shift(&table.stretched(STRETCH), times)
-            .map_err(|what| format!("with constants {STRETCH} times as large: {what}"))
+        for (random, trays) in times.iter_mut().zip([false, true]) {
+            self.shift(table, random, trays)?;
+            self.shift(&table.stretched(STRETCH), random, trays)
+                .map_err(|what| format!("with constants {STRETCH} times as large: {what}"))?;
+        }
+        Ok(())
     }
 
     /// What came of a table. The first ten that differ are shown.
-    fn judged(&mut self, table: &Table, times: &mut Random) {
+    fn judged(&mut self, table: &Table, times: &mut [Random; 2]) {
         let bytes = table.bytes();
         let number = self.tables;
         self.tables += 1;
@@ -1267,25 +1334,30 @@ impl Tally {
         println!("panels beside all rows of moments: {}", self.panels);
         let [absent, open, closed] = self.windows;
         println!("  windows closed, open, absent: {closed} {open} {absent}");
-        let shifts = &self.shifts;
-        let [by_first, by_later] = shifts.turned_away;
-        println!("shifts by true times: {}", shifts.shifts);
-        println!("  scans accepted: {}", shifts.accepted);
-        println!("  of these after the first round: {}", shifts.later_rounds);
-        println!("  turned away by the first guard of the step: {by_first}");
-        println!("  by a later guard: {by_later}");
-        println!(
-            "  where the counter had started again: {}",
-            shifts.started_again
-        );
-        println!("  shifts of 65,536 ticks or more: {}", shifts.long);
-        println!("  ticks of the longest: {}", shifts.longest);
+        for (shifts, kind) in self.shifts.iter().zip(["", " with trays"]) {
+            let [by_first, by_later] = shifts.turned_away;
+            println!("shifts{kind} by true times: {}", shifts.shifts);
+            println!("  scans accepted: {}", shifts.accepted);
+            println!("  of these after the first round: {}", shifts.later_rounds);
+            println!("  turned away by the first guard of the step: {by_first}");
+            println!("  by a later guard: {by_later}");
+            println!(
+                "  where the counter had started again: {}",
+                shifts.started_again
+            );
+            println!("  shifts of 65,536 ticks or more: {}", shifts.long);
+            println!("  ticks of the longest: {}", shifts.longest);
+        }
+        let with_trays = &self.shifts[1];
+        let [empty, none, some, all] = with_trays.trays;
+        println!("  trays of no scan, with none accepted, some, all: {empty} {none} {some} {all}");
+        println!("  scans in trays: {}", with_trays.in_trays);
         println!("tables that differ: {}", self.differ);
     }
 }
 
 fn main() {
-    let (mut random, mut times) = (Random(1), Random(2));
+    let (mut random, mut times) = (Random(1), [Random(2), Random(3)]);
     let mut tally = Tally::default();
     for _ in 0..TABLES {
         tally.judged(&Table::draw(&mut random), &mut times);

@@ -1,5 +1,6 @@
 pub mod Choice
 pub mod Numbers
 pub mod Tab
+pub mod Mapped
 pub mod Pigeon
 pub mod Distinct

@@ -1,5 +1,6 @@
 pub mod Fill
 pub mod Laws
+pub mod Few
 pub mod Slices
 pub mod Entries
 pub mod Puts

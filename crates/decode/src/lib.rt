@@ -1,9 +1,5 @@
 // The table by value: accepted bytes to clocks, steps, guards and resets in arrays.
 use filling::empty_table;
-use filling::put_guard;
-use filling::put_head;
-use filling::put_reset;
-use filling::put_step;
 use filling::relation_of;
 use records::body_size;
 use table::Guard;
@@ -18,7 +14,7 @@ ghost use Rattle.wire.specs.Records.{recordAt, records};
 ghost use Rattle.wire.specs.Reading.{readOf};
 ghost use Rattle.wire.specs.Listing.{guardIn};
 ghost use Rattle.filling.specs.Filling.{empty};
-ghost use Rattle.decode.specs.Fill.{put, filled, tableOf};
+ghost use Rattle.decode.specs.Fill.{filled, tableOf};
 
 // The guard whose record begins at a place.
 fn guard_at(bytes: &[u8], at: usize) -> Guard
@@ -36,27 +32,7 @@ fn guard_at(bytes: &[u8], at: usize) -> Guard
     }
 }
 
-// The table with the record of a kind at a place put in.
-fn put_record(bytes: &[u8], at: usize, k: usize, t: Table) -> Table
-    requires { ⌜ at ≤ 4096 ⌝ }
-    ensures { λ r. ⌜ r ≡ put (recordAt at k (drop (at + 1) (now (bytes .entry)))) t ⌝ }
-{
-    if k == 1 {
-        return put_head(t, byte_at(bytes, at + 1));
-    }
-    if k == 2 {
-        return put_guard(t, guard_at(bytes, at));
-    }
-    if k == 3 {
-        return put_reset(t, byte_at(bytes, at + 1));
-    }
-    if k == 4 {
-        return put_step(t);
-    }
-    t
-}
-
-// The table by value of all records.
+// The table by value of all records. What does not fit is left out; in accepted bytes everything fits.
 fn fill(bytes: &[u8]) -> Table
     requires { ⌜ length (now bytes) ≤ 4096 ⌝ }
     ensures { λ r. ⌜ r ≡ filled empty (records (now (bytes .entry))) ⌝ }
@@ -65,7 +41,26 @@ fn fill(bytes: &[u8]) -> Table
     let mut at: usize = 0;
     while at < bytes.len() {
         let k = byte_at(bytes, at);
-        t = put_record(bytes, at, k, t);
+        let step = t.steps;
+        if k == 1 {
+            t.clocks = byte_at(bytes, at + 1);
+        } else if k == 2 {
+            let count = t.ends[step + 1];
+            if count < 64 {
+                t.guards[count] = guard_at(bytes, at);
+                t.ends[step + 1] = count + 1;
+            }
+        } else if k == 3 {
+            let clock = byte_at(bytes, at + 1);
+            if clock < 7 {
+                t.resets[7 * step + clock] = true;
+            }
+        } else if k == 4 {
+            if step < 16 {
+                t.ends[step + 2] = t.ends[step + 1];
+                t.steps = step + 1;
+            }
+        }
         at = at + 1 + body_size(k);
     }
     t

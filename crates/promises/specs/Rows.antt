@@ -31,6 +31,8 @@ number-some fault.Loop = omega arith
 number-some fault.List = omega arith
 number-some fault.Twice = omega arith
 number-some fault.Record = omega arith
+number-some fault.Tray = omega arith
+number-some fault.Verdicts = omega arith
 
 -- a refusal for a fault, with place 0
 abbrev pub atStart : Fault → Refusal

@@ -1,26 +1,22 @@
 -- What the entries give, and leave in the rooms lent to them.
 use mathlib.Core.Path.{_≡_, ap}
-use mathlib.Core.Bool.{Bool, true, false, cond, _&&_}
+use mathlib.Core.Bool.{Bool, cond}
 use mathlib.Core.List.{List}
-use Prim.Native.Nat.{ℕ, _≤_, _<_}
-use lib.ListN.{length}
+use Prim.Native.Nat.{ℕ}
 use Rattle.answers.specs.Four.{four, refusedNumbers}
-use Rattle.answers.specs.Answered.{roomy, answered, short, roomy-yes}
+use Rattle.answers.specs.Answered.{answered}
 use Rattle.scans.specs.declared.Scanned.{Scanned}
 use Rattle.scans.specs.declared.Verdict.{Verdict}
 use Rattle.scans.specs.declared.Verdict.the-variants.{Accepted, TurnedAway, Refused}
 use Rattle.scans.specs.Answer.{scanOf}
-use Rattle.scan.specs.Row.{holdsRecord, recordIn, withRecord, row-short, row-long}
+use Rattle.rows.specs.Row.{recordIn, withRecord}
+use Rattle.rows.specs.Asked.{asked}
 
 -- the four numbers of a verdict: turned away, the number of the guard
 abbrev pub verdictNumbers : Verdict → List ℕ
 verdictNumbers Accepted = four 0 0 0 0
 verdictNumbers (TurnedAway b) = four 0 b 0 0
 verdictNumbers (Refused f) = refusedNumbers f
-
--- whether both rooms are long enough to ask
-abbrev pub asked : List ℕ → List ℕ → Bool
-asked row room = holdsRecord row && roomy room
 
 -- the scan of the record that a row holds
 abbrev pub scanIn : List ℕ → ℕ → List ℕ → Scanned
@@ -34,16 +30,6 @@ unfoldable pub answerAfter : List ℕ → ℕ → List ℕ → List ℕ → List
 answerAfter bytes counter row room = cond (asked row room) (answered room (verdictNumbers (scanIn bytes counter row .verdict))) room
 
 -- ---- laws
-
--- a room that is short, whichever it is
-pub asked-row : (row room : List ℕ) → length row < 8 → false ≡ asked row room
-asked-row row room h = ap (λ b. b && roomy room) (row-short row h)
-
-pub asked-room : (row room : List ℕ) → 8 ≤ length row → length room < 4 → false ≡ asked row room
-asked-room row room h l = λ i. row-long row h i && short room l i
-
-pub asked-both : (row room : List ℕ) → 8 ≤ length row → 4 ≤ length room → true ≡ asked row room
-asked-both row room h l = λ i. row-long row h i && roomy-yes room l i
 
 -- both rooms at exit, by whether they are long enough
 module _ (bytes : List ℕ) (counter : ℕ) (row room : List ℕ) (b : Bool) (e : b ≡ asked row room) where

@@ -3,15 +3,15 @@
 // fewer than eight places, or an answer room of fewer than four, gives false, and then no room changes.
 use answers::put;
 use answers::refused_numbers;
-use scans::Running;
+use rows::put_record;
+use rows::record_in;
 use scans::Verdict;
 use scans::log_in;
 ghost use mathlib.Core.Path.{_≡_};
-ghost use Prim.Native.Nat.{_≤_};
-ghost use lib.ListN.{length};
 ghost use Rattle.scans.specs.Scan.{logIn};
-ghost use Rattle.scan.specs.Row.{holdsRecord, recordIn, withRecord};
-ghost use Rattle.scan.specs.Told.{verdictNumbers, asked, runningAfter, answerAfter};
+ghost use Rattle.rows.specs.Row.{holdsRecord, withRecord};
+ghost use Rattle.rows.specs.Asked.{asked};
+ghost use Rattle.scan.specs.Told.{verdictNumbers, runningAfter, answerAfter};
 
 // how many numbers a running record and an answer have
 const RECORD: usize = 8;
@@ -26,35 +26,6 @@ fn verdict_numbers(verdict: Verdict) -> [u64; 4]
         Verdict::TurnedAway(guard) => [0, guard as u64, 0, 0],
         Verdict::Refused(refusal) => refused_numbers(refusal),
     }
-}
-
-// The record that a row holds.
-fn record_in(row: &[u16]) -> Running
-    requires { ⌜ 8 ≤ length (now row) ⌝ }
-    ensures { λ r. ⌜ r ≡ recordIn (now (row .entry)) ⌝ }
-{
-    let readings = [row[1], row[2], row[3], row[4], row[5], row[6]];
-    Running {
-        step: row[0],
-        readings,
-        counter: row[7],
-    }
-}
-
-// Puts a record into the first eight places of a row.
-fn put_record(row: &mut [u16], r: Running)
-    requires { ⌜ 8 ≤ length (now row) ⌝ }
-    ensures { λ _. ⌜ now (row .exit) ≡ withRecord (now (row .entry)) r ⌝ }
-{
-    let readings = r.readings;
-    row[0] = r.step;
-    row[1] = readings[0];
-    row[2] = readings[1];
-    row[3] = readings[2];
-    row[4] = readings[3];
-    row[5] = readings[4];
-    row[6] = readings[5];
-    row[7] = r.counter;
 }
 
 // Log-in at a counter.

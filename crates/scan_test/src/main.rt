@@ -3,62 +3,18 @@ use scanning::scan;
 use scans::Running;
 use scans::Verdict;
 use scans::log_in;
+use testkit::column;
 use testkit::field;
 use testkit::fill;
 use testkit::name;
+use testkit::readings_in;
 use testkit::refusal;
 use testkit::table;
 use testkit::title;
 use testkit::word;
 
-// More tables, on a tape like testkit's. x, y and z are clocks 1, 2 and 3, and a semicolon stands between steps.
-//
-//   numbers            x at most 9, y at most 9; x is reset, y at most 0, x at most 0
-//   reset first        x is reset, x at most 2
-//   exactly between    x at least 0, x exactly 5, x at most 9
-//   exactly first      x exactly 5, x is reset, y at most 9
-//   resets between     x is reset, x at least 2, y is reset, y at most 5, x at most 8
-//   five relations     clock 1 under 5, clock 2 at most 5, clock 3 exactly 5, clock 4 at least 5, clock 5 over 5
-//   six guards         clocks 1 to 6 at most 10, clocks 2 and 5 are reset
-//   every two ticks    x exactly 2, x is reset
-//   sixteen steps      x exactly 1; x exactly 2; and so on; x exactly 16, x is reset
-//   rail               hook in: z at least 20, x is reset; settle: x at least 30, x at most 400;
-//                      weigh: x at least 50, x under 600, y is reset; label: y at least 5, y at most 50;
-//                      scan out: y over 10, x at most 1,000, z is reset
-//
-// Then six with one bare step, and ten that are refused.
-const TABLES: [u8; 776] = *b"\
-    x at most 4000:\x09\x01\x01\x02\x01\x01\xa0\x0f\x04\x05\
-    x over 4000:\x09\x01\x01\x02\x01\x04\xa0\x0f\x04\x05\
-    numbers:\x1b\x01\x02\x02\x01\x01\x09\x00\x02\x02\x01\x09\x00\x04\x03\x01\x02\x02\x01\x00\x00\x02\x01\x01\x00\x00\x04\x05\
-    reset first:\x0b\x01\x01\x03\x01\x02\x01\x01\x02\x00\x04\x05\
-    exactly between:\x13\x01\x01\x02\x01\x03\x00\x00\x02\x01\x02\x05\x00\x02\x01\x01\x09\x00\x04\x05\
-    exactly first:\x10\x01\x02\x02\x01\x02\x05\x00\x03\x01\x02\x02\x01\x09\x00\x04\x05\
-    resets between:\x17\x01\x02\x03\x01\x02\x01\x03\x02\x00\x03\x02\x02\x02\x01\x05\x00\x02\x01\x01\x08\x00\x04\x05\
-    five relations:\x1d\x01\x05\x02\x01\x00\x05\x00\x02\x02\x01\x05\x00\x02\x03\x02\x05\x00\x02\x04\x03\x05\x00\x02\x05\x04\x05\x00\x04\x05\
-    six guards:\x26\x01\x06\x02\x01\x01\x0a\x00\x02\x02\x01\x0a\x00\x02\x03\x01\x0a\x00\x02\x04\x01\x0a\x00\x02\x05\x01\x0a\x00\x02\x06\x01\x0a\x00\x03\x02\x03\x05\x04\x05\
-    every two ticks:\x0b\x01\x01\x02\x01\x02\x02\x00\x03\x01\x04\x05\
-    sixteen steps:\x65\x01\x01\x02\x01\x02\x01\x00\x04\x02\x01\x02\x02\x00\x04\x02\x01\x02\x03\x00\x04\x02\x01\x02\x04\x00\x04\x02\x01\x02\x05\x00\x04\x02\x01\x02\x06\x00\x04\x02\x01\x02\x07\x00\x04\x02\x01\x02\x08\x00\x04\x02\x01\x02\x09\x00\x04\x02\x01\x02\x0a\x00\x04\x02\x01\x02\x0b\x00\x04\x02\x01\x02\x0c\x00\x04\x02\x01\x02\x0d\x00\x04\x02\x01\x02\x0e\x00\x04\x02\x01\x02\x0f\x00\x04\x02\x01\x02\x10\x00\x03\x01\x04\x05\
-    rail:\x3b\x01\x03\x02\x03\x03\x14\x00\x03\x01\x04\x02\x01\x03\x1e\x00\x02\x01\x01\x90\x01\x04\x02\x01\x03\x32\x00\x02\x01\x00\x58\x02\x03\x02\x04\x02\x02\x03\x05\x00\x02\x02\x01\x32\x00\x04\x02\x02\x04\x0a\x00\x02\x01\x01\xe8\x03\x03\x03\x04\x05\
-    1 clock:\x04\x01\x01\x04\x05\
-    2 clocks:\x04\x01\x02\x04\x05\
-    3 clocks:\x04\x01\x03\x04\x05\
-    4 clocks:\x04\x01\x04\x04\x05\
-    5 clocks:\x04\x01\x05\x04\x05\
-    6 clocks:\x04\x01\x06\x04\x05\
-    no byte:\x00\
-    kind 6:\x01\x06\
-    no head:\x01\x05\
-    clock 2 of 1:\x06\x01\x01\x03\x02\x04\x05\
-    relation 5:\x09\x01\x01\x02\x01\x05\x00\x00\x04\x05\
-    constant 4001:\x09\x01\x01\x02\x01\x00\xa1\x0f\x04\x05\
-    no step:\x03\x01\x01\x05\
-    a byte more:\x05\x01\x01\x04\x05\x05\
-    reset twice:\x08\x01\x01\x03\x01\x03\x01\x04\x05\
-    clock 2 of 1, in step 2:\x07\x01\x01\x04\x03\x02\x04\x05";
-
 // Cases are on tapes of the same form, with numbers in six columns each in place of a table. Their tables are testkit's by number,
-// and those above by 100 and their number.
+// and `MORE_TABLES` by 100 and their number.
 //
 // From log-in: a table, the counter at log-in, and the counters of the scans.
 const SHIFTS: [u8; 1662] = *b"\
@@ -208,20 +164,9 @@ const RAIL: [u8; 318] = *b"\
 const TWICE: [u8; 192] =
     *b"     1     2     3     4     5     6     7     8     9    10    11    12    13    14    15    16    17    18    19    20    21    22    23    24    25    26    27    28    29    30    31    32";
 
-fn readings(r: [u16; 6]) {
-    field(b", readings ", r[0] as u64);
-    field(b" ", r[1] as u64);
-    field(b" ", r[2] as u64);
-    field(b" ", r[3] as u64);
-    field(b" ", r[4] as u64);
-    field(b" ", r[5] as u64);
-}
-
 fn record(running: Running) {
-    field(b" step ", running.step as u64);
-    let r = running.readings;
-    readings(r);
-    field(b", counter ", running.counter as u64);
+    let readings = running.readings;
+    testkit::record(running.step, readings, running.counter);
 }
 
 // One scan: its counter and the verdict are printed, and the record after it is given back.
@@ -241,27 +186,12 @@ fn give(bytes: &[u8], running: Running, counter: u16) -> Running {
     scanned.running
 }
 
-// Number k of a text, from 0: its digits in six columns, where a blank counts as a 0; 0 past the end.
-fn number(text: &[u8], k: usize) -> u16 {
-    if text.len() / 6 <= k {
-        return 0;
-    }
-    let end = k * 6 + 6;
-    let mut value: u32 = 0;
-    let mut at = k * 6;
-    while at < end {
-        value = (value * 10 + (text[at] % 16) as u32) % 65536;
-        at += 1;
-    }
-    value as u16
-}
-
 // Scans one after the other, by the numbers of a text from one of them up to another.
 fn row(bytes: &[u8], running: Running, text: &[u8], from: usize, to: usize) -> Running {
     let mut now = running;
     let mut k = from;
     while k < to {
-        now = give(bytes, now, number(text, k));
+        now = give(bytes, now, column(text, k));
         k += 1;
     }
     now
@@ -289,7 +219,7 @@ fn line(
 // The same for a case: its first number tells the table, and the scans are those from a number on.
 fn ask(running: Running, text: &[u8], from: usize) {
     let to = text.len() / 6;
-    let which = number(text, 0) as usize;
+    let which = column(text, 0) as usize;
     if which < 100 {
         let tape = testkit::TABLES;
         line(
@@ -302,7 +232,7 @@ fn ask(running: Running, text: &[u8], from: usize) {
         );
         return;
     }
-    let tape = TABLES;
+    let tape = testkit::MORE_TABLES;
     let own = which - 100;
     line(name(&tape, own), table(&tape, own), running, text, from, to);
 }
@@ -313,23 +243,18 @@ fn shifts() {
     while case <= 42 {
         title(name(&tape, case));
         let text = table(&tape, case);
-        ask(log_in(number(text, 1)), text, 2);
+        ask(log_in(column(text, 1)), text, 2);
         case += 1;
     }
 }
 
 // The record of a case.
 fn record_of(text: &[u8]) -> Running {
-    let a = number(text, 2);
-    let b = number(text, 3);
-    let c = number(text, 4);
-    let d = number(text, 5);
-    let e = number(text, 6);
-    let f = number(text, 7);
+    let readings = readings_in(text);
     Running {
-        step: number(text, 1),
-        readings: [a, b, c, d, e, f],
-        counter: number(text, 8),
+        step: column(text, 1),
+        readings,
+        counter: column(text, 8),
     }
 }
 
@@ -365,7 +290,7 @@ fn edges(constant: u16, text: &[u8]) {
 
 // Twice round a table of sixteen steps, a line for each scan.
 fn sixteen_steps() {
-    let tape = TABLES;
+    let tape = testkit::MORE_TABLES;
     let text = TWICE;
     let mut running = log_in(0);
     let mut k: usize = 0;
@@ -386,7 +311,7 @@ fn in_turn() {
 }
 
 fn rail() {
-    let tape = TABLES;
+    let tape = testkit::MORE_TABLES;
     let texts = RAIL;
     let mut running = log_in(60000);
     let mut case: usize = 1;

@@ -3,7 +3,6 @@ pub mod Compare
 pub mod Noted
 pub mod Safe
 pub mod Follows
-pub mod Settled
 pub mod Tested
 pub mod Found
 pub mod Judged

@@ -6,6 +6,8 @@ use records::body_size;
 use records::is_free;
 use scans::Running;
 use scans::Scanned;
+use scans::can_go_on;
+use scans::next_step;
 use table::Fault;
 use table::Read;
 use table::Refusal;
@@ -23,7 +25,7 @@ ghost use Rattle.records.specs.Rules.{relationOf, isFree};
 ghost use Rattle.wire.specs.Records.{recordAt};
 ghost use Rattle.wire.specs.Reading.{readOf};
 ghost use Rattle.wire.specs.Listing.{guardIn, contentOf};
-ghost use Rattle.scans.specs.Scan.{compares, following, heldAll, fits};
+ghost use Rattle.scans.specs.Scan.{compares, fits};
 ghost use Rattle.scans.specs.Answer.{refusedWith, scanOf};
 ghost use Rattle.scanning.specs.Progress.{meets, started, failed, guardTested, stepFinished, noted, progressOf, settled, acceptedBy, decidedBy, concludedBy};
 ghost use Rattle.scanning.specs.Safe.{GuardAt, Counts};
@@ -226,45 +228,6 @@ fn settle(readings: [u16; 6], clocks: usize, ticks: u16, resets: u32) -> [u16; 6
         i += 1;
     }
     out
-}
-
-// Whether the readings of a table's clocks are at most 4,001.
-fn held_all(readings: [u16; 6], clocks: usize) -> bool
-    requires { ⌜ clocks ≤ 6 ⌝ }
-    ensures { λ r. ⌜ r ≡ heldAll clocks readings ⌝ }
-{
-    let mut i: usize = 0;
-    while i < clocks {
-        if 4001 < readings[i] {
-            return false;
-        }
-        i += 1;
-    }
-    true
-}
-
-// Whether a table of so many clocks and steps can go on from a record.
-fn can_go_on(running: Running, clocks: usize, steps: usize) -> bool
-    requires { ⌜ clocks ≤ 6 ⌝ }
-    ensures { λ r. ⌜ r ≡ fits clocks steps running ⌝ }
-{
-    let step = running.step as usize;
-    if !between(1, step, steps) {
-        return false;
-    }
-    let readings = running.readings;
-    held_all(readings, clocks)
-}
-
-// The step after a step.
-fn next_step(step: u16, steps: usize) -> u16
-    requires { ⌜ (step ≤ steps) × (steps ≤ 16) ⌝ }
-    ensures { λ r. ⌜ r ≡ following steps step ⌝ }
-{
-    if step as usize == steps {
-        return 1;
-    }
-    step + 1
 }
 
 // All guards of the step hold.

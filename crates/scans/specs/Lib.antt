@@ -1,3 +1,4 @@
 pub mod Scan
 pub mod Held
 pub mod Answer
+pub mod Going

@@ -24,7 +24,7 @@ use Rattle.asking.specs.Rounds.{clocksOf, cycleOf, RunExists}
 use Rattle.scans.specs.declared.Scanned.{Scanned}
 use Rattle.scans.specs.declared.Verdict.the-variants.{Accepted, TurnedAway, Refused}
 use Rattle.scans.specs.Scan.{due, firstFailing, decided, scanned}
-use Rattle.scans.specs.Answer.{scanOf}
+use Rattle.scans.specs.Going.{scan-judged}
 use Rattle.shifts.specs.Shift.{Shift, Near, begun, scanAt, goneOn, shiftFrom, AllNear, none, more}
 use Rattle.shifts.specs.Sound.{stepsTo, momentsOf, noReading, HoldsAt, First, Sound, Promise}
 use Rattle.shifts.specs.Grown.{steps-rounds}
@@ -107,11 +107,11 @@ module _ (bytes : List ℕ) (h : Bytes bytes) (n L g : ℕ) (e : readOf bytes �
   written = accepted-written bytes h n L g e
 
   -- of L steps
-  size : L ≡ length (cycleOf bytes)
+  pub size : L ≡ length (cycleOf bytes)
   size = written .steps ∙ sym (length-map (listing bytes .steps) stepOf)
 
   -- and n clocks, within the limits
-  limits : Limits (cycleOf bytes) n
+  pub limits : Limits (cycleOf bytes) n
   limits =
       record {
         few = omega (arith, written .clocks, written .legal .clocks-few);
@@ -124,8 +124,7 @@ module _ (bytes : List ℕ) (h : Bytes bytes) (n L g : ℕ) (e : readOf bytes �
     -- every scan of a shift that has kept is judged
     scan-is : (s : Shift) → Kept (cycleOf bytes) n first s → (t : ℕ)
         → scanAt bytes first s t ≡ scanned (cycleOf bytes) n (s .running) (counterAt first t)
-    unfolding scanOf
-    scan-is s k t = rw (e, scanOf, size, kept-fits (cycleOf bytes) n first limits s k)
+    scan-is s k t = scan-judged bytes n L g e (s .running) (counterAt first t) (rw size (kept-fits (cycleOf bytes) n first limits s k))
 
     -- a scan keeps
     kept-gone : (s : Shift) → Kept (cycleOf bytes) n first s → (t : ℕ) → Near (s .times) t

@@ -28,7 +28,8 @@ pub struct Table {
     pub resets: [bool; 119],
 }
 
-// Why a table, a number of rounds, a room or a running record is refused: 01's word for each, in the order of 01's numbers, 1 to 17.
+// Why a table, a number of rounds, a room, a running record or a tray of scans is refused: a word for each, in the order of their numbers, 1
+// to 19.
 pub enum Fault {
     Length,
     Cut,
@@ -47,6 +48,8 @@ pub enum Fault {
     List,
     Twice,
     Record,
+    Tray,
+    Verdicts,
 }
 
 // A refusal: why, and the byte's place.
@@ -87,5 +90,7 @@ pub fn number(fault: Fault) -> u64
         Fault::List => 15,
         Fault::Twice => 16,
         Fault::Record => 17,
+        Fault::Tray => 18,
+        Fault::Verdicts => 19,
     }
 }

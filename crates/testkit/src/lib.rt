@@ -36,19 +36,73 @@ pub const TABLES: [u8; 403] = *b"\
     three clocks:\x27\x01\x03\x03\x01\x02\x01\x01\x01\x00\x02\x02\x01\x02\x00\x02\x03\x01\x03\x00\x04\x02\x01\x03\x04\x00\x02\x02\x03\x05\x00\x02\x03\x04\x06\x00\x03\x02\x04\x05\
     a lead of 1022:\x10\x01\x02\x02\x01\x03\x01\x00\x02\x02\x01\xfe\x03\x03\x01\x04\x05";
 
-// Where the name that begins at a place of a tape ends: the next colon, or the end.
-fn colon(tape: &[u8], from: usize) -> usize
-    requires { ⌜ from ≤ length (now tape) ⌝ }
-    ensures { λ r. ⌜ (from ≤ r) × (r ≤ length (now (tape .entry))) ⌝ }
+// More tables, for scans, on a tape like the one above. x, y and z are clocks 1, 2 and 3, and a semicolon stands between steps.
+//
+//   numbers            x at most 9, y at most 9; x is reset, y at most 0, x at most 0
+//   reset first        x is reset, x at most 2
+//   exactly between    x at least 0, x exactly 5, x at most 9
+//   exactly first      x exactly 5, x is reset, y at most 9
+//   resets between     x is reset, x at least 2, y is reset, y at most 5, x at most 8
+//   five relations     clock 1 under 5, clock 2 at most 5, clock 3 exactly 5, clock 4 at least 5, clock 5 over 5
+//   six guards         clocks 1 to 6 at most 10, clocks 2 and 5 are reset
+//   every two ticks    x exactly 2, x is reset
+//   sixteen steps      x exactly 1; x exactly 2; and so on; x exactly 16, x is reset
+//   rail               hook in: z at least 20, x is reset; settle: x at least 30, x at most 400;
+//                      weigh: x at least 50, x under 600, y is reset; label: y at least 5, y at most 50;
+//                      scan out: y over 10, x at most 1,000, z is reset
+//
+// Then six with one bare step, and ten that are refused.
+pub const MORE_TABLES: [u8; 776] = *b"\
+    x at most 4000:\x09\x01\x01\x02\x01\x01\xa0\x0f\x04\x05\
+    x over 4000:\x09\x01\x01\x02\x01\x04\xa0\x0f\x04\x05\
+    numbers:\x1b\x01\x02\x02\x01\x01\x09\x00\x02\x02\x01\x09\x00\x04\x03\x01\x02\x02\x01\x00\x00\x02\x01\x01\x00\x00\x04\x05\
+    reset first:\x0b\x01\x01\x03\x01\x02\x01\x01\x02\x00\x04\x05\
+    exactly between:\x13\x01\x01\x02\x01\x03\x00\x00\x02\x01\x02\x05\x00\x02\x01\x01\x09\x00\x04\x05\
+    exactly first:\x10\x01\x02\x02\x01\x02\x05\x00\x03\x01\x02\x02\x01\x09\x00\x04\x05\
+    resets between:\x17\x01\x02\x03\x01\x02\x01\x03\x02\x00\x03\x02\x02\x02\x01\x05\x00\x02\x01\x01\x08\x00\x04\x05\
+    five relations:\x1d\x01\x05\x02\x01\x00\x05\x00\x02\x02\x01\x05\x00\x02\x03\x02\x05\x00\x02\x04\x03\x05\x00\x02\x05\x04\x05\x00\x04\x05\
+    six guards:\x26\x01\x06\x02\x01\x01\x0a\x00\x02\x02\x01\x0a\x00\x02\x03\x01\x0a\x00\x02\x04\x01\x0a\x00\x02\x05\x01\x0a\x00\x02\x06\x01\x0a\x00\x03\x02\x03\x05\x04\x05\
+    every two ticks:\x0b\x01\x01\x02\x01\x02\x02\x00\x03\x01\x04\x05\
+    sixteen steps:\x65\x01\x01\x02\x01\x02\x01\x00\x04\x02\x01\x02\x02\x00\x04\x02\x01\x02\x03\x00\x04\x02\x01\x02\x04\x00\x04\x02\x01\x02\x05\x00\x04\x02\x01\x02\x06\x00\x04\x02\x01\x02\x07\x00\x04\x02\x01\x02\x08\x00\x04\x02\x01\x02\x09\x00\x04\x02\x01\x02\x0a\x00\x04\x02\x01\x02\x0b\x00\x04\x02\x01\x02\x0c\x00\x04\x02\x01\x02\x0d\x00\x04\x02\x01\x02\x0e\x00\x04\x02\x01\x02\x0f\x00\x04\x02\x01\x02\x10\x00\x03\x01\x04\x05\
+    rail:\x3b\x01\x03\x02\x03\x03\x14\x00\x03\x01\x04\x02\x01\x03\x1e\x00\x02\x01\x01\x90\x01\x04\x02\x01\x03\x32\x00\x02\x01\x00\x58\x02\x03\x02\x04\x02\x02\x03\x05\x00\x02\x02\x01\x32\x00\x04\x02\x02\x04\x0a\x00\x02\x01\x01\xe8\x03\x03\x03\x04\x05\
+    1 clock:\x04\x01\x01\x04\x05\
+    2 clocks:\x04\x01\x02\x04\x05\
+    3 clocks:\x04\x01\x03\x04\x05\
+    4 clocks:\x04\x01\x04\x04\x05\
+    5 clocks:\x04\x01\x05\x04\x05\
+    6 clocks:\x04\x01\x06\x04\x05\
+    no byte:\x00\
+    kind 6:\x01\x06\
+    no head:\x01\x05\
+    clock 2 of 1:\x06\x01\x01\x03\x02\x04\x05\
+    relation 5:\x09\x01\x01\x02\x01\x05\x00\x00\x04\x05\
+    constant 4001:\x09\x01\x01\x02\x01\x00\xa1\x0f\x04\x05\
+    no step:\x03\x01\x01\x05\
+    a byte more:\x05\x01\x01\x04\x05\x05\
+    reset twice:\x08\x01\x01\x03\x01\x03\x01\x04\x05\
+    clock 2 of 1, in step 2:\x07\x01\x01\x04\x03\x02\x04\x05";
+
+// Where a byte stands next in a text, from a place on; the end, where it does not.
+pub fn find(text: &[u8], from: usize, byte: u8) -> usize
+    requires { ⌜ from ≤ length (now text) ⌝ }
+    ensures { λ r. ⌜ (from ≤ r) × (r ≤ length (now (text .entry))) ⌝ }
 {
     let mut i = from;
-    while i < tape.len() {
-        if tape[i] == 58 {
+    while i < text.len() {
+        if text[i] == byte {
             return i;
         }
         i += 1;
     }
     i
+}
+
+// Where the name that begins at a place of a tape ends: the next colon, or the end.
+fn colon(tape: &[u8], from: usize) -> usize
+    requires { ⌜ from ≤ length (now tape) ⌝ }
+    ensures { λ r. ⌜ (from ≤ r) × (r ≤ length (now (tape .entry))) ⌝ }
+{
+    find(tape, from, 58)
 }
 
 fn number_of(byte: u8) -> usize
@@ -149,6 +203,32 @@ pub fn wide(out: &mut [u8], tail: &[u8])
     fill(out, b"\x01\x06", steps, tail);
 }
 
+// Number k of a text, from 0: its digits in six columns, where a blank counts as a 0; 0 past the end.
+pub fn column(text: &[u8], k: usize) -> u16 {
+    if text.len() / 6 <= k {
+        return 0;
+    }
+    let end = k * 6 + 6;
+    let mut value: u32 = 0;
+    let mut at = k * 6;
+    while at < end {
+        value = (value * 10 + (text[at] % 16) as u32) % 65536;
+        at += 1;
+    }
+    value as u16
+}
+
+// The readings of a text that has a running record as its numbers 1 to 8.
+pub fn readings_in(text: &[u8]) -> [u16; 6] {
+    let a = column(text, 2);
+    let b = column(text, 3);
+    let c = column(text, 4);
+    let d = column(text, 5);
+    let e = column(text, 6);
+    let f = column(text, 7);
+    [a, b, c, d, e, f]
+}
+
 // A number without its sign.
 fn magnitude(x: i64) -> u64
     ensures { λ r. ⌜ r ≡ natAbs x ⌝ }
@@ -192,6 +272,22 @@ pub fn refusal(why: Refusal) {
     let fault = why.fault;
     field(b"refused ", table::number(fault));
     field(b" at ", why.place as u64);
+}
+
+fn readings(r: [u16; 6]) {
+    field(b", readings ", r[0] as u64);
+    field(b" ", r[1] as u64);
+    field(b" ", r[2] as u64);
+    field(b" ", r[3] as u64);
+    field(b" ", r[4] as u64);
+    field(b" ", r[5] as u64);
+}
+
+// A running record.
+pub fn record(step: u16, r: [u16; 6], counter: u16) {
+    field(b" step ", step as u64);
+    readings(r);
+    field(b", counter ", counter as u64);
 }
 
 // A row's cells from a place on, four to a line.

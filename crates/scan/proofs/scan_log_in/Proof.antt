@@ -1,6 +1,6 @@
 -- A short row is kept; into any other a record is put.
 use mathlib.Core.Path.{ap, _∙_}
-use Rattle.scan.specs.Row.{withRecord, row-short, row-long, row-kept}
+use Rattle.rows.specs.Row.{withRecord, row-short, row-long, row-kept}
 use native.Mathlib.Omega.{arith}
 use borrow.Author.Needs.{needs}
 use Rattle.scan.proofs.scan_log_in.Statement.{statement}

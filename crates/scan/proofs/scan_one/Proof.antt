@@ -3,8 +3,9 @@ use mathlib.Core.Path.{ap, _∙_}
 use mathlib.Core.Bool.{true, false}
 use Rattle.answers.specs.Answered.{answered}
 use Rattle.scans.specs.Answer.{scanOf}
-use Rattle.scan.specs.Row.{withRecord}
-use Rattle.scan.specs.Told.{verdictNumbers, asked-row, asked-room, asked-both, running-left, answer-left}
+use Rattle.rows.specs.Row.{withRecord}
+use Rattle.rows.specs.Asked.{asked-row, asked-room, asked-both}
+use Rattle.scan.specs.Told.{verdictNumbers, running-left, answer-left}
 use native.Mathlib.Omega.{arith}
 use borrow.Author.Needs.{needs}
 use Rattle.scan.proofs.scan_one.Statement.{statement}

@@ -13,8 +13,8 @@ abbrev μ-loop : tie.MeasureT-loop
 loop-holds : tie.Need-loop-holds Inv-loop μ-loop
 loop-holds c = search needs
 
-number-requires : tie.Need-number-requires Inv-loop μ-loop
-number-requires c κs = search needs
+column-requires : tie.Need-column-requires Inv-loop μ-loop
+column-requires c κs = search needs
 
 give-requires : tie.Need-give-requires Inv-loop μ-loop
 give-requires c κs = search needs
@@ -38,7 +38,7 @@ row-spec =
     Inv-loop
     μ-loop
     loop-holds
-    number-requires
+    column-requires
     give-requires
     add-k
     loop-less

@@ -30,8 +30,8 @@ slice-aggregate-table c = search needs
 table-requires : tie.Need-table-requires Inv-loop μ-loop
 table-requires c κs = search needs
 
-number-requires : tie.Need-number-requires Inv-loop μ-loop
-number-requires c κs = search needs
+column-requires : tie.Need-column-requires Inv-loop μ-loop
+column-requires c κs = search needs
 
 log-in-requires : tie.Need-log-in-requires Inv-loop μ-loop
 log-in-requires c κs = search needs
@@ -63,7 +63,7 @@ shifts-spec =
     title-requires
     slice-aggregate-table
     table-requires
-    number-requires
+    column-requires
     log-in-requires
     ask-requires
     add-case

@@ -1,0 +1,2 @@
+-- what the entry gives and leaves in the rooms
+pub mod Told

@@ -1,0 +1,4 @@
+pub mod Moved
+pub mod Scans
+pub mod Given
+pub mod Asking
