@@ -1,11 +1,10 @@
 -- A table goes on from scan to scan: from a record that it can go on from, no scan is refused, and the record after it is such a one too.
-use mathlib.Core.Path.{_≡_, refl, ap, sym, _∙_}
+use mathlib.Core.Path.{_≡_, ap, _∙_}
 use mathlib.Core.Bool.{Bool, true, false, cond}
 use mathlib.Core.List.{List}
 use Prim.Native.Nat.{ℕ, zero, suc, _+_, _≤_, _<_}
 use native.Mathlib.Omega.{arith}
 use native.Mathlib.Decide.{ℕ-discrete}
-use lib.Dec.{eqb}
 use lib.ListN.{length, getD}
 use borrow.Author.Tests.{eq-eqb, ne-eqb}
 use Rattle.basics.specs.Tab.{getD-tab}
@@ -17,7 +16,7 @@ use Rattle.asking.specs.Rounds.{cycleOf}
 use Rattle.scans.specs.declared.Running.{Running}
 use Rattle.scans.specs.Scan.{aged, firstFailing, cleared, due, following, decided, scanned, fits}
 use Rattle.scans.specs.Held.{aged-at, fits-step, fits-true}
-use Rattle.scans.specs.Answer.{judgedBy, answeredBy, scanOf}
+use Rattle.scans.specs.Answer.{answeredBy, scanOf}
 
 -- the scan is judged
 pub scan-judged : (bytes : List ℕ) (n L g : ℕ) → readOf bytes ≡ read.Counted n L g → (r : Running) (counter : ℕ) → fits n L r ≡ true

@@ -1,21 +1,19 @@
 -- A tray given for bytes: they are refused, or accepted, and then it is given to the table by value.
 use mathlib.Core.Path.{_≡_, refl, sym, ap, _∙_}
 use mathlib.Core.Bool.{Bool, true, false}
-use mathlib.Core.List.{List, _++_, List·Memᴰ}
+use mathlib.Core.List.{List, _++_}
 use Prim.Native.Nat.{ℕ}
 use native.Mathlib.Omega.{arith}
-use lib.Dec.{leb}
 use lib.ListN.{length, drop}
-use Rattle.table.specs.declared.Fault.the-variants as fault
 use Rattle.table.specs.declared.Read.{Read}
 use Rattle.table.specs.declared.Read.the-variants as read
 use Rattle.table.specs.declared.Refusal.{Refusal}
 use Rattle.table.specs.declared.Table.{Table}
-use Rattle.table.specs.Step.{Step, stepsOf, Good}
+use Rattle.table.specs.Step.{stepsOf, Good}
 use Rattle.table.specs.Steps.{length-steps}
 use Rattle.wire.specs.Records.{Bytes}
 use Rattle.wire.specs.Reading.{readOf}
-use Rattle.wire.specs.Listing.{listing, cycle}
+use Rattle.wire.specs.Listing.{listing}
 use Rattle.format.specs.Accepted.{Written, accepted-written}
 use Rattle.format.specs.Fair.{legal-clocks}
 use Rattle.runs.specs.Demand.{Clocks}
@@ -31,8 +29,8 @@ use Rattle.trays.specs.declared.Outcome.{Outcome}
 use Rattle.trays.specs.declared.Outcome.the-variants.{Counted, Refused}
 use Rattle.trays.specs.declared.Trayed.{Trayed}
 use Rattle.trays.specs.Tray.{verdictsBy, runningBy, verdictRow, acceptedIn}
-use Rattle.trays.specs.Answer.{orElse, outcomeBy, outcomeOf, unless, runningOf, verdictsOf}
-use Rattle.trays.specs.Laws.{verdicts-same, running-same}
+use Rattle.trays.specs.Answer.{admitted, outcomeBy, outcomeOf, unless, runningOf, verdictsOf}
+use Rattle.trays.specs.Laws.{verdicts-same, running-same, admitted-not}
 use Rattle.traying.specs.Given.{scanBy, outcomeIn, Given}
 
 module _ (bytes : List ℕ) (r : Running) (counters room : List ℕ) (a : Read) (e : a ≡ readOf bytes) where
@@ -97,11 +95,7 @@ module _ (bytes : List ℕ) (r : Running) (counters room : List ℕ) (a : Read) 
 
     -- the outcome, by the verdicts
     abbrev by-verdicts : List Verdict → ℕ → ℕ → Outcome
-    by-verdicts vs n L =
-        orElse (fits n L r) fault.Record
-        (orElse (leb (length counters) 256) fault.Tray
-        (orElse (leb (length counters) (length room)) fault.Verdicts
-        (Counted (acceptedIn vs))))
+    by-verdicts vs n L = admitted n L r counters (length room) (Counted (acceptedIn vs))
 
     abbrev o : Outcome
     o = outcomeIn t r counters (length room)
@@ -117,7 +111,8 @@ module _ (bytes : List ℕ) (r : Running) (counters room : List ℕ) (a : Read) 
     module _ (A : Type 0) (was is are : A) where
       alike : (b : Bool) → fits (t .clocks) (t .steps) r ≡ b → (Goes r → is ≡ are) → unless o was is ≡ unless o was are
       alike true can same = ap (unless o was) (same can)
-      alike false cannot same = let none : o ≡ Refused (record { fault = fault.Record; place = 0 }) = rw cannot in
+      alike false cannot same =
+          let none = admitted-not (t .clocks) (t .steps) r counters (length room) _ cannot in
           ap (λ x. unless x was is) none ∙ sym (ap (λ x. unless x was are) none)
 
     outcome-is : o ≡ outcomeOf bytes r counters (length room)
@@ -125,7 +120,9 @@ module _ (bytes : List ℕ) (r : Running) (counters room : List ℕ) (a : Read) 
       where
         go : (b : Bool) → fits (t .clocks) (t .steps) r ≡ b → o ≡ by-verdicts (verdictsBy (scanOf bytes) r counters) (t .clocks) (t .steps)
         go true can = ap (λ vs. by-verdicts vs (t .clocks) (t .steps)) (verdicts-same (scanBy t) (scanOf bytes) Goes scan-fits scan-is r counters can)
-        go false cannot = rw cannot
+        go false cannot =
+            admitted-not (t .clocks) (t .steps) r counters (length room) _ cannot
+            ∙ sym (admitted-not (t .clocks) (t .steps) r counters (length room) _ cannot)
 
     -- What is given to the table is told.
     pub told-given : (told : Trayed) (after : List ℕ) → Given t r counters room told after → Told (told .outcome) (told .running) after

@@ -2,13 +2,13 @@
 use mathlib.Core.Path.{_≡_, refl, sym, ap, _∙_}
 use mathlib.Core.Bool.{Bool, true, false, cond}
 use mathlib.Core.List.{List, [], _∷_, _++_}
-use Prim.Native.Nat.{ℕ, zero, suc, _+_, _≤_, _<_}
+use Prim.Native.Nat.{ℕ, suc, _+_, _≤_, _<_}
 use native.Mathlib.Omega.{arith}
 use native.Mathlib.Numerals.{add-one}
-use lib.Dec.{eqb, leb}
+use lib.Dec.{eqb}
 use lib.ListN.{length, getD, drop, set, length-set, length-map, drop-of-length-le}
 use lib.Seq.{sets, sets-eq, drop-cons}
-use borrow.Author.Tests.{le-leb, lt-leb, ne-eqb}
+use borrow.Author.Tests.{ne-eqb}
 use Rattle.table.specs.declared.Fault.{Fault}
 use Rattle.table.specs.declared.Fault.the-variants as fault
 use Rattle.table.specs.declared.Table.{Table}
@@ -24,7 +24,7 @@ use Rattle.trays.specs.declared.Outcome.the-variants.{Counted, Refused}
 use Rattle.trays.specs.declared.Trayed.{Trayed}
 use Rattle.trays.specs.Tray.{verdictsBy, runningBy, verdictNumber, verdictRow, acceptedIn}
 use Rattle.trays.specs.Answer.{countedBy, unless}
-use Rattle.trays.specs.Laws.{Told, accepted, turned, scanned-told, length-verdicts}
+use Rattle.trays.specs.Laws.{Told, accepted, turned, scanned-told, length-verdicts, admitted-not, admitted-many, admitted-short, admitted-all}
 
 -- what a table by value gives for one scan
 abbrev pub scanBy : Table → Running → ℕ → Scanned
@@ -154,17 +154,17 @@ module _ (t : Table) (r : Running) (counters room : List ℕ) where
 
   pub given-record : fits (t .clocks) (t .steps) r ≡ false → (told : Trayed)
       → told ≡ record { outcome = Refused (record { fault = fault.Record; place = 0 }); running = r } → Given t r counters room told room
-  given-record cannot = refused-with fault.Record (rw cannot)
+  given-record cannot = refused-with fault.Record (sym (admitted-not (t .clocks) (t .steps) r counters (length room) _ cannot))
 
   module _ (can : fits (t .clocks) (t .steps) r ≡ true) where
     pub given-tray : 256 < length counters → (told : Trayed)
         → told ≡ record { outcome = Refused (record { fault = fault.Tray; place = 0 }); running = r } → Given t r counters room told room
-    given-tray many = refused-with fault.Tray (rw (can, lt-leb (length counters) 256 many))
+    given-tray many = refused-with fault.Tray (sym (admitted-many (t .clocks) (t .steps) r counters (length room) _ can many))
 
     pub given-verdicts : length counters ≤ 256 → length room < length counters → (told : Trayed)
         → told ≡ record { outcome = Refused (record { fault = fault.Verdicts; place = 0 }); running = r } → Given t r counters room told room
     given-verdicts few short =
-        refused-with fault.Verdicts (rw (can, le-leb (length counters) 256 few, lt-leb (length counters) (length room) short))
+        refused-with fault.Verdicts (sym (admitted-short (t .clocks) (t .steps) r counters (length room) _ can few short))
 
     -- it is not refused
     pub given-scans : length counters ≤ 256 → length counters ≤ length room → (told : Trayed) (after : List ℕ)
@@ -172,7 +172,7 @@ module _ (t : Table) (r : Running) (counters room : List ℕ) where
         → after ≡ sets room 0 (verdictRow (verdictsBy (scanBy t) r counters)) → Given t r counters room told after
     given-scans few enough told after a b c =
         told-by (Counted (acceptedIn (verdictsBy (scanBy t) r counters)))
-        (rw (can, le-leb (length counters) 256 few, le-leb (length counters) (length room) enough)) told after a b
+        (sym (admitted-all (t .clocks) (t .steps) r counters (length room) _ can few enough)) told after a b
         (c ∙ sets-eq (verdictRow (verdictsBy (scanBy t) r counters)) room 0 (omega (arith, size))
         ∙ ap (λ k. verdictRow (verdictsBy (scanBy t) r counters) ++ drop k room) from-0)
       where

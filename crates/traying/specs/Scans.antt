@@ -1,5 +1,5 @@
 -- One scan, tested by the readings that the guards allow, is the scan of the table.
-use mathlib.Core.Path.{_≡_, refl, sym, ap, ap₂, subst, _∙_}
+use mathlib.Core.Path.{_≡_, refl, sym, ap, _∙_}
 use mathlib.Core.Bool.{Bool, true, false, cond, _&&_}
 use mathlib.Core.List.{List, [], List·Memᴰ}
 use Prim.Native.Nat.{ℕ, zero, suc, _+_, _-_, _*_, _≤_, _<_}
@@ -8,8 +8,7 @@ use lib.Dec.{ltb, leb}
 use lib.ListN.{length, getD, take}
 use lib.Seq.{slice, getD-drop, getD-take, length-slice}
 use borrow.Author.Tests.{ne-eqb}
-use Rattle.basics.specs.Tab.{tab, length-tab, getD-tab, is-tab}
-use Rattle.table.specs.declared.Guard.{Guard}
+use Rattle.basics.specs.Tab.{length-tab, getD-tab, is-tab}
 use Rattle.table.specs.declared.Table.{Table}
 use Rattle.table.specs.Step.{Step, resets, stepAt, stepsOf, Good}
 use Rattle.table.specs.Steps.{length-steps, steps-at, step-member, guard-member}
@@ -17,7 +16,6 @@ use Rattle.filling.specs.Filling.{noGuard}
 use Rattle.ticks.specs.Ticks.{elapsedOf}
 use Rattle.runs.specs.Demand.{Clocks}
 use Rattle.scans.specs.declared.Running.{Running}
-use Rattle.scans.specs.declared.Scanned.{Scanned}
 use Rattle.scans.specs.Scan.{holds, firstFailing, aged, cleared, due, following, decided, scanned, fits}
 use Rattle.scans.specs.Held.{aged-at, fits-step}
 use Rattle.trays.specs.Tray.{verdictNumber}

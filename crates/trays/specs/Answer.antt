@@ -21,14 +21,18 @@ use Rattle.trays.specs.Tray.{verdictsBy, runningBy, verdictRow, accepted
 abbrev pub orElse : Bool → Fault → Outcome → Outcome
 orElse b f o = cond b o (Refused (record { fault = f; place = 0 }))
 
--- A tray of some counters, and a room for so many verdicts, by a table that is accepted and what it gives for one scan: 17 for a record that
--- the table cannot go on from, 18 for more than 256 counters, 19 for a room with fewer places than counters.
-abbrev pub countedBy : (Running → ℕ → Scanned) → ℕ → ℕ → Running → List ℕ → ℕ → Outcome
-countedBy scan n L r counters places =
+-- The tests of a tray of some counters, and of a room for so many verdicts, by a table that is accepted: 17 for a record that the table cannot
+-- go on from, 18 for more than 256 counters, 19 for a room with fewer places than counters.
+abbrev pub admitted : ℕ → ℕ → Running → List ℕ → ℕ → Outcome → Outcome
+admitted n L r counters places o =
     orElse (fits n L r) fault.Record
     (orElse (leb (length counters) 256) fault.Tray
     (orElse (leb (length counters) places) fault.Verdicts
-    (Counted (acceptedIn (verdictsBy scan r counters)))))
+    o))
+
+-- and then how many scans are accepted, by what one scan gives
+abbrev pub countedBy : (Running → ℕ → Scanned) → ℕ → ℕ → Running → List ℕ → ℕ → Outcome
+countedBy scan n L r counters places = admitted n L r counters places (Counted (acceptedIn (verdictsBy scan r counters)))
 
 -- the table's own faults come first
 abbrev pub outcomeBy : List ℕ → Running → List ℕ → ℕ → Read → Outcome

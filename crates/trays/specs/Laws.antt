@@ -1,9 +1,10 @@
 -- Laws of scans given one after the other, and of a tray that is not refused.
 use mathlib.Core.Path.{_≡_, refl, ap, _∙_}
-use mathlib.Core.Bool.{true}
+use mathlib.Core.Bool.{Bool, true, false}
 use mathlib.Core.List.{List, [], _∷_, _++_, List·Memᴰ, List·Memᴰ·not-nil, List·Memᴰ·cases-cons}
 use mathlib.Core.Logic.{_⊎_, inl, inr}
 use Prim.Native.Nat.{ℕ, zero, suc, _≤_, _<_}
+use lib.Dec.{leb}
 use lib.ListN.{length, drop}
 use borrow.Author.Tests.{le-leb, lt-leb}
 use Rattle.table.specs.Step.{Step}
@@ -16,9 +17,10 @@ use Rattle.scans.specs.declared.Verdict.{Verdict}
 use Rattle.scans.specs.declared.Verdict.the-variants.{Accepted, TurnedAway}
 use Rattle.scans.specs.Scan.{firstFailing, due, decided, tested, scanned, fits}
 use Rattle.scans.specs.Answer.{scanOf}
+use Rattle.trays.specs.declared.Outcome.{Outcome}
 use Rattle.trays.specs.declared.Outcome.the-variants.{Counted, Refused}
 use Rattle.trays.specs.Tray.{verdictsBy, runningBy, verdictRow, acceptedIn}
-use Rattle.trays.specs.Answer.{outcomeBy, outcomeOf, unless, runningOf, verdictsOf}
+use Rattle.trays.specs.Answer.{orElse, admitted, countedBy, outcomeBy, outcomeOf, unless, runningOf, verdictsOf}
 
 -- A verdict that its number tells: accepted, or turned away by guard 1 or a later one.
 pub data Told : Verdict → Type 0 where
@@ -81,29 +83,49 @@ module _ (scan other : Running → ℕ → Scanned) (P : Running → Type 0) (ke
   running-same r (c ∷ cs) p =
       running-same (scan r c .running) cs (keeps r c p) ∙ ap (λ s. runningBy other (s .running) cs) (same r c p)
 
+-- ---- the tests of a tray
+module _ (n L : ℕ) (r : Running) (counters : List ℕ) (places : ℕ) (o : Outcome) where
+  -- by what each of them says
+  abbrev tests : Bool → Bool → Bool → Outcome
+  tests can few enough = orElse can fault.Record (orElse few fault.Tray (orElse enough fault.Verdicts o))
+
+  pub admitted-not : fits n L r ≡ false → admitted n L r counters places o ≡ Refused (record { fault = fault.Record; place = 0 })
+  admitted-not cannot = ap (λ can. tests can (leb (length counters) 256) (leb (length counters) places)) cannot
+
+  module _ (can : fits n L r ≡ true) where
+    pub admitted-many : 256 < length counters → admitted n L r counters places o ≡ Refused (record { fault = fault.Tray; place = 0 })
+    admitted-many many = λ i. tests (can i) (lt-leb (length counters) 256 many i) (leb (length counters) places)
+
+    pub admitted-short : length counters ≤ 256 → places < length counters
+        → admitted n L r counters places o ≡ Refused (record { fault = fault.Verdicts; place = 0 })
+    admitted-short few short = λ i. tests (can i) (le-leb (length counters) 256 few i) (lt-leb (length counters) places short i)
+
+    pub admitted-all : length counters ≤ 256 → length counters ≤ places → admitted n L r counters places o ≡ o
+    admitted-all few enough = λ i. tests (can i) (le-leb (length counters) 256 few i) (le-leb (length counters) places enough i)
+
 -- ---- by bytes that are accepted, with a record that the table can go on from
 module _ (bytes : List ℕ) (n L g : ℕ) (e : readOf bytes ≡ read.Counted n L g) (r : Running) (can : fits n L r ≡ true) (counters : List ℕ) where
+  -- the outcome is that of the tests
+  outcome-by : (places : ℕ) → outcomeOf bytes r counters places ≡ countedBy (scanOf bytes) n L r counters places
+  unfolding outcomeOf
+  outcome-by places = ap (outcomeBy bytes r counters places) e
+
   -- too many counters
   pub outcome-many : (places : ℕ) → 256 < length counters
       → outcomeOf bytes r counters places ≡ Refused (record { fault = fault.Tray; place = 0 })
-  unfolding outcomeOf
-  outcome-many places many = ap (outcomeBy bytes r counters places) e ∙ rw (can, lt-leb (length counters) 256 many)
+  outcome-many places many = outcome-by places ∙ admitted-many n L r counters places _ can many
 
   -- at most 256
   module _ (few : length counters ≤ 256) where
     -- a room that is too short
     pub outcome-short : (places : ℕ) → places < length counters
         → outcomeOf bytes r counters places ≡ Refused (record { fault = fault.Verdicts; place = 0 })
-    unfolding outcomeOf
-    outcome-short places short =
-        ap (outcomeBy bytes r counters places) e ∙ rw (can, le-leb (length counters) 256 few, lt-leb (length counters) places short)
+    outcome-short places short = outcome-by places ∙ admitted-short n L r counters places _ can few short
 
     -- the tray is not refused
     pub outcome-counted : (places : ℕ) → length counters ≤ places
         → outcomeOf bytes r counters places ≡ Counted (acceptedIn (verdictsBy (scanOf bytes) r counters))
-    unfolding outcomeOf
-    outcome-counted places room =
-        ap (outcomeBy bytes r counters places) e ∙ rw (can, le-leb (length counters) 256 few, le-leb (length counters) places room)
+    outcome-counted places enough = outcome-by places ∙ admitted-all n L r counters places _ can few enough
 
     -- so the record is the one after its scans
     pub running-counted : (places : ℕ) → length counters ≤ places

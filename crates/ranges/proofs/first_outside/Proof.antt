@@ -1,6 +1,6 @@
 -- `ranges::first_outside` meets its contract: the guards before allow the readings of their clocks.
 use mathlib.Core.Path.{_≡_, sym, ap, _∙_}
-use Prim.Native.Nat.{_+_, _-_, _≤_}
+use Prim.Native.Nat.{_-_, _≤_}
 use lib.ListN.{getD}
 use Rattle.ranges.specs.Allowed.{inside, firstOutside, outside-later, outside-here, outside-none}
 use borrow.Author.Tests.{not-true, not-false}

@@ -1,6 +1,5 @@
 -- `ranges::is_inside` meets its contract, by its tests.
 use borrow.Author.Tests.{le-leb, lt-leb}
-use borrow.Author.Needs.{needs}
 use native.Mathlib.Omega.{arith}
 use Rattle.ranges.proofs.is_inside.Statement.{statement}
 use Rattle.ranges.proofs.is_inside.Tie as tie

@@ -6,7 +6,6 @@ use Rattle.scans.specs.Answer.{scanOf}
 use Rattle.rows.specs.Row.{withRecord}
 use Rattle.rows.specs.Asked.{asked-row, asked-room, asked-both}
 use Rattle.scan.specs.Told.{verdictNumbers, running-left, answer-left}
-use native.Mathlib.Omega.{arith}
 use borrow.Author.Needs.{needs}
 use Rattle.scan.proofs.scan_one.Statement.{statement}
 use Rattle.scan.proofs.scan_one.Tie as tie

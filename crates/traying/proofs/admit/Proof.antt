@@ -5,7 +5,6 @@ use borrow.Author.Tests.{not-true, not-false}
 use Rattle.scans.specs.Scan.{fits}
 use Rattle.traying.specs.Given.{given-record, given-tray, given-verdicts, given-scans}
 use borrow.Author.Needs.{needs}
-use native.Mathlib.Omega.{arith}
 use Rattle.traying.proofs.admit.Statement.{statement}
 use Rattle.traying.proofs.admit.Tie as tie
 

@@ -1,6 +1,6 @@
 -- `traying::give` meets its contract: the scans before have been given.
-use mathlib.Core.Path.{_≡_, sym, ap, ap₂, _∙_}
-use Prim.Native.Nat.{ℕ, _-_, _≤_, _<_}
+use mathlib.Core.Path.{_≡_, ap, _∙_}
+use Prim.Native.Nat.{ℕ, _-_, _≤_}
 use lib.ListN.{length, getD}
 use Rattle.table.specs.declared.Table.{Table}
 use Rattle.table.specs.Step.{Good, stepsOf}
@@ -12,7 +12,7 @@ use Rattle.trays.specs.declared.Outcome.the-variants.{Counted}
 use Rattle.ranges.specs.declared.Ranges.{Ranges}
 use Rattle.ranges.specs.Allowed.{rangesOf, inside, firstOutside, outside-few}
 use Rattle.traying.specs.Moved.{movedOn}
-use Rattle.traying.specs.Scans.{old, from, to, scan-asked, scan-number, scan-moved}
+use Rattle.traying.specs.Scans.{scan-asked, scan-number, scan-moved}
 use Rattle.traying.specs.Given.{GivenTo, given-none, given-more, given-all}
 use borrow.Author.Needs.{needs}
 use native.Mathlib.Omega.{arith}

@@ -2,7 +2,6 @@
 use mathlib.Core.Path.{_∙_}
 use Rattle.traying.specs.Moved.{moved-none, moved-one}
 use borrow.Author.Needs.{needs}
-use native.Mathlib.Omega.{arith}
 use Rattle.traying.proofs.move_on.Statement.{statement}
 use Rattle.traying.proofs.move_on.Tie as tie
 
