@@ -1,14 +1,15 @@
--- Demands as difference constraints in parts.
-use mathlib.Core.Path.{_≡_, ap}
+-- Demands as difference constraints in parts: those of ticks scaled by P, and those whose constants are in parts already.
+use mathlib.Core.Path.{_≡_, refl, ap}
 use mathlib.Core.Logic.{_↔_}
-use mathlib.Core.List.{List, map, List·Memᴰ, Memᴰ·of-map}
+use mathlib.Core.List.{List, [], _∷_, map, List·Memᴰ, Memᴰ·of-map}
 use Prim.Native.Nat.{ℕ, _+_, _<_}
 use native.Mathlib.Omega.{arith}
 use Rattle.runs.specs.declared.Demand.{Demand}
 use Rattle.runs.specs.DemandRange.{Proper}
 use Rattle.runs.specs.Tools.{Every, every-map}
 use Rattle.runs.specs.Satisfies.{Satisfies}
-use Rattle.runs.specs.Parts.{gain, loss, holds-parts}
+use Rattle.runs.specs.Parts.{bit, gain, loss, holds-parts}
+use Rattle.sides.specs.Scaled.{scaleDemand}
 use Rattle.paths.specs.Constraint.{Constraint, constraint, Holds, All, Fits}
 
 -- a demand in P parts to a tick
@@ -17,6 +18,18 @@ inParts P d = constraint (d .from) (d .to) (gain P d) (loss P d)
 
 abbrev pub allInParts : ℕ → List Demand → List Constraint
 allInParts P ds = map (inParts P) ds
+
+-- a demand whose constants are in parts
+abbrev pub edge : Demand → Constraint
+edge d = constraint (d .from) (d .to) (d .down + bit (d .strict)) (d .up)
+
+abbrev pub edges : List Demand → List Constraint
+edges ds = map edge ds
+
+-- Demands scaled by P are, constraint by constraint, those in P parts.
+pub edges-scaled : (P : ℕ) (ds : List Demand) → edges (map (scaleDemand P) ds) ≡ allInParts P ds
+edges-scaled P [] = refl
+edges-scaled P (d ∷ ds) = ap (λ cs. inParts P d ∷ cs) (edges-scaled P ds)
 
 -- Times satisfy the demands if and only if they solve the constraints.
 pub satisfies-parts : (P : ℕ) (x : ℕ → ℕ) (ds : List Demand) → Satisfies P x ds ↔ All (allInParts P ds) x

@@ -1,4 +1,4 @@
-// Checks of demands as difference constraints in parts, over lent times: of one demand, of a key, and of one side of a step.
+// Checks of demands in parts as difference constraints, over lent times: of one demand, of a key, and of one side of a step.
 use constraints::bit_of;
 use last_resets::last_reset;
 use paths::relax;
@@ -9,7 +9,8 @@ use sweeps::upper_demand;
 ghost use mathlib.Core.Path.{_≡_};
 ghost use mathlib.Core.Bool.{_||_};
 ghost use mathlib.Core.List.{[], _∷_};
-ghost use Prim.Native.Nat.{_+_, _≤_};
+ghost use Prim.Native.Nat.{_+_, _≤_, _<_};
+ghost use Rattle.sides.specs.Sides.{none};
 ghost use Rattle.sides.specs.Tight.{keyDemand, keyDemands};
 ghost use Rattle.last_resets.specs.Distance.{lastOf};
 ghost use Rattle.sweeps.specs.Order.{sideOf};
@@ -30,23 +31,15 @@ fn either(a: bool, b: bool) -> bool
     if a { true } else { b }
 }
 
-// A check of a demand in parts, after checks that gave w.
-pub fn check(
-    parts: u64,
-    d: Demand,
-    time: &mut [u64],
-    parent: &mut [u64],
-    stamp: &mut [u64],
-    w: Sweep,
-) -> Sweep
-    requires { ⌜ Checkable parts (d ∷ []) (state (now time) (now parent) (now stamp)) (w .stamp) ⌝ }
-    ensures { λ r. ⌜ Checked parts (d ∷ []) (w .raised) (w .stamp)
+// A check of a demand, after checks that gave w.
+pub fn check(d: Demand, time: &mut [u64], parent: &mut [u64], stamp: &mut [u64], w: Sweep) -> Sweep
+    requires { ⌜ Checkable (d ∷ []) (state (now time) (now parent) (now stamp)) (w .stamp) ⌝ }
+    ensures { λ r. ⌜ Checked (d ∷ []) (w .raised) (w .stamp)
         (state (now (time .entry)) (now (parent .entry)) (now (stamp .entry)))
         (state (now (time .exit)) (now (parent .exit)) (now (stamp .exit))) (r .raised) (r .stamp) ⌝ }
 {
-    let gain = d.down * parts + bit_of(d.strict);
-    let loss = d.up * parts;
-    let up = relax(time, parent, stamp, d.from, d.to, gain, loss, w.stamp);
+    let gain = d.down + bit_of(d.strict);
+    let up = relax(time, parent, stamp, d.from, d.to, gain, d.up, w.stamp);
     Sweep {
         raised: either(w.raised, up),
         stamp: w.stamp + 1,
@@ -55,6 +48,7 @@ pub fn check(
 
 // The demand of a key on a side, at moment i on a clock last reset at moment z.
 pub fn key_demand(upper: bool, key: u64, z: usize, i: usize) -> Demand
+    requires { ⌜ key < none ⌝ }
     ensures { λ r. ⌜ r ≡ keyDemand upper key z i ⌝ }
 {
     if upper {
@@ -71,16 +65,15 @@ fn check_key(
     total: usize,
     i: usize,
     j: usize,
-    parts: u64,
     time: &mut [u64],
     parent: &mut [u64],
     stamp: &mut [u64],
     w: Sweep,
 ) -> Sweep
     requires { ⌜ (total ≤ 1024) × (i ≤ 1024) × (j ≤ 6)
-        × Checkable parts (keyDemands upper key (lastOf distance total i j) (i + 1)) (state (now time) (now parent) (now stamp))
+        × Checkable (keyDemands upper key (lastOf distance total i j) (i + 1)) (state (now time) (now parent) (now stamp))
         (w .stamp) ⌝ }
-    ensures { λ r. ⌜ Checked parts (keyDemands upper key (lastOf distance total i j) (i + 1)) (w .raised) (w .stamp)
+    ensures { λ r. ⌜ Checked (keyDemands upper key (lastOf distance total i j) (i + 1)) (w .raised) (w .stamp)
         (state (now (time .entry)) (now (parent .entry)) (now (stamp .entry)))
         (state (now (time .exit)) (now (parent .exit)) (now (stamp .exit))) (r .raised) (r .stamp) ⌝ }
 {
@@ -88,14 +81,7 @@ fn check_key(
         return w;
     }
     let z = last_reset(distance, total, i, j);
-    check(
-        parts,
-        key_demand(upper, key, z, i + 1),
-        time,
-        parent,
-        stamp,
-        w,
-    )
+    check(key_demand(upper, key, z, i + 1), time, parent, stamp, w)
 }
 
 // The checks of one side of step i of `total`, which is step s of its round, clock by clock.
@@ -107,16 +93,15 @@ pub fn check_side(
     total: usize,
     s: usize,
     i: usize,
-    parts: u64,
     time: &mut [u64],
     parent: &mut [u64],
     stamp: &mut [u64],
     w: Sweep,
 ) -> Sweep
     requires { ⌜ Placed (now keys) (now far) clocks total s i
-        × Checkable parts (sideOf upper (now keys) (now far) total s i 1 clocks) (state (now time) (now parent) (now stamp))
+        × Checkable (sideOf upper (now keys) (now far) total s i 1 clocks) (state (now time) (now parent) (now stamp))
         (w .stamp) ⌝ }
-    ensures { λ r. ⌜ Checked parts (sideOf upper (now (keys .entry)) (now (far .entry)) total s i 1 clocks)
+    ensures { λ r. ⌜ Checked (sideOf upper (now (keys .entry)) (now (far .entry)) total s i 1 clocks)
         (w .raised) (w .stamp)
         (state (now (time .entry)) (now (parent .entry)) (now (stamp .entry)))
         (state (now (time .exit)) (now (parent .exit)) (now (stamp .exit))) (r .raised) (r .stamp) ⌝ }
@@ -132,7 +117,6 @@ pub fn check_side(
             total,
             i,
             j,
-            parts,
             time,
             parent,
             stamp,

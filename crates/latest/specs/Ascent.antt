@@ -11,53 +11,58 @@ use native.Mathlib.Decide.{ℕ-discrete}
 use Rattle.runs.specs.declared.Demand.{Demand}
 use Rattle.sweeps.specs.Order.{sideOf, backAt}
 use Rattle.paths.specs.Constraint.{Constraint}
-use Rattle.checks.specs.InParts.{allInParts}
+use Rattle.checks.specs.InParts.{edges}
 use Rattle.lowering.specs.Lowered.{Bounds, bounds, lowersOf}
 use Rattle.lowering.specs.Bounded.{Bounded, bounded-some}
 use Rattle.lowering.specs.Outcome.{total, Settled, Lowers, Falling, falling-first, falling-then, falling-among, checks-lowers, checks-falling}
 use Rattle.bounding.specs.Turns.{afterOf, Able}
-use Rattle.latest.specs.Steps.{forthParts, backParts, stepParts, back-member, back-settled, left-member, right-member}
+use Rattle.latest.specs.Steps.{forthEdges, backEdges, stepEdges, back-member, back-settled, left-member, right-member}
 use Rattle.latest.specs.Descent.{Descended}
 
-module _ (P : ℕ) (low up far : List ℕ) (L n K : ℕ) where
+module _ (low up far : List ℕ) (L n K : ℕ) where
+  -- the number of moments
+  abbrev N : ℕ
+  N = K + n + 1
+
   abbrev own : ℕ → List Demand
   own i = backAt up far L n K i
 
   abbrev forth : List Constraint
-  forth = forthParts P low far L n K
+  forth = forthEdges low far L n K
 
   abbrev back : List Constraint
-  back = backParts P up far L n K
+  back = backEdges up far L n K
 
   abbrev cs : List Constraint
-  cs = stepParts P low up far L n K
+  cs = stepEdges low up far L n K
 
-  member : (i : ℕ) → i < K → (c : Constraint) → List·Memᴰ c (allInParts P (own i)) → List·Memᴰ c cs
-  member i l c m = right-member forth back c (back-member P up far L n K i l c m)
+  member : (i : ℕ) → i < K → (c : Constraint) → List·Memᴰ c (edges (own i)) → List·Memᴰ c cs
+  member i l c m = right-member forth back c (back-member up far L n K i l c m)
 
   -- What the checks of step i give, after checks of which h says whether one has lowered a bound: r says it of these too, and step
   -- `next` is the one to go on with. Where these have lowered none, all is as it was, and the demands of the step hold.
   pub record Stepped (i : ℕ) (h : Bool) (l l′ : List ℕ) (r : Bool) (next : ℕ) : Type 0 where
-    pub falling : Falling P cs l l′
+    pub falling : Falling N cs l l′
     pub within : next ≤ i + 1
-    pub either : ((r ≡ h) × (l′ ≡ l) × (next ≡ i + 1) × Settled (allInParts P (own i)) l′) ⊎ ((r ≡ true) × (total l′ < total l))
+    pub either : ((r ≡ h) × (l′ ≡ l) × (next ≡ i + 1) × Settled (edges (own i)) l′) ⊎ ((r ≡ true) × (total l′ < total l))
 
-  module _ (i s : ℕ) (inside : i < K) (e : s ≡ i % L) (h : Bool) (l : List ℕ) (b : Bounded P cs l) where
-    pub upper-able : Able P (sideOf true up far K s i 1 n) l
+  module _ (i s : ℕ) (inside : i < K) (e : s ≡ i % L) (h : Bool) (l : List ℕ) (b : Bounded N cs l) where
+    pub upper-able : Able (sideOf true up far K s i 1 n) l
     upper-able =
-        subst (λ q. Able P (sideOf true up far K q i 1 n) l) (sym e) (bounded-some P cs (allInParts P (own i)) l (member i inside) b)
+        subst (λ q. Able (sideOf true up far K q i 1 n) l) (sym e)
+        (record { moments = N; bounded = bounded-some N cs (edges (own i)) l (member i inside) b })
 
-    -- m is not below P where nothing was lowered
-    module _ (l₁ : List ℕ) (m₀ m : ℕ) (few : P ≤ m₀)
-        (c : bounds l₁ m ≡ afterOf P (sideOf true up far K s i 1 n) (bounds l m₀)) where
-      after : bounds l₁ m ≡ lowersOf (allInParts P (own i)) (bounds l m₀)
-      after = c ∙ ap (λ q. afterOf P (sideOf true up far K q i 1 n) (bounds l m₀)) e
+    -- m is not below N where nothing was lowered
+    module _ (l₁ : List ℕ) (m₀ m : ℕ) (few : N ≤ m₀)
+        (c : bounds l₁ m ≡ afterOf (sideOf true up far K s i 1 n) (bounds l m₀)) where
+      after : bounds l₁ m ≡ lowersOf (edges (own i)) (bounds l m₀)
+      after = c ∙ ap (λ q. afterOf (sideOf true up far K q i 1 n) (bounds l m₀)) e
 
-      lowers : Lowers P (allInParts P (own i)) (bounds l m₀) (bounds l₁ m)
-      lowers = checks-lowers P cs (bounds l m₀) (bounds l₁ m) b (allInParts P (own i)) (member i inside) after
+      lowers : Lowers N (edges (own i)) (bounds l m₀) (bounds l₁ m)
+      lowers = checks-lowers N cs (bounds l m₀) (bounds l₁ m) b (edges (own i)) (member i inside) after
 
-      fell : Falling P cs l l₁
-      fell = checks-falling P cs (bounds l m₀) (bounds l₁ m) b (allInParts P (own i)) (member i inside) after
+      fell : Falling N cs l l₁
+      fell = checks-falling N cs (bounds l m₀) (bounds l₁ m) b (edges (own i)) (member i inside) after
 
       pub stepped-quiet : m₀ ≤ m → Stepped i h l l₁ h (i + 1)
       stepped-quiet w =
@@ -69,50 +74,50 @@ module _ (P : ℕ) (low up far : List ℕ) (L n K : ℕ) where
                   refl,
                   ap (λ (t : Bounds). t .late) (same .0),
                   refl,
-                  subst (λ (t : Bounds). Settled (allInParts P (own i)) (t .late)) (sym (same .0)) (same .1),
+                  subst (λ (t : Bounds). Settled (edges (own i)) (t .late)) (sym (same .0)) (same .1),
                 );
           }
         where
-          same : (bounds l₁ m ≡ bounds l m₀) × Settled (allInParts P (own i)) l
+          same : (bounds l₁ m ≡ bounds l m₀) × Settled (edges (own i)) l
           same = lowers .quiet (omega arith)
 
       pub stepped-hit : m < m₀ → Stepped i h l l₁ true (i + 1)
       stepped-hit w = record { falling = fell; within = omega arith; either = inr (refl, lowers .less w) }
 
       -- the checks back from here
-      pub back-able : Bounded P forth l₁
-      back-able = bounded-some P cs forth l₁ (left-member forth back) (fell .bounded)
+      pub back-able : Bounded N forth l₁
+      back-able = bounded-some N cs forth l₁ (left-member forth back) (fell .bounded)
 
-      pub stepped-mended : m < m₀ → (from : ℕ) (l₂ : List ℕ) (lowest : ℕ) → Descended P low far L n K from (i + 1) l₁ l₂ lowest
+      pub stepped-mended : m < m₀ → (from : ℕ) (l₂ : List ℕ) (lowest : ℕ) → Descended low far L n K from (i + 1) l₁ l₂ lowest
           → Stepped i h l l₂ true lowest
       stepped-mended w from l₂ lowest d =
           record {
-            falling = falling-then P cs l l₁ l₂ fell then;
+            falling = falling-then N cs l l₁ l₂ fell then;
             within = d .bottom;
             either = inr (refl, omega (arith, lowers .less w, then .sum));
           }
         where
-          then : Falling P cs l₁ l₂
-          then = falling-among P cs forth l₁ l₂ (left-member forth back) (fell .bounded) (d .falling)
+          then : Falling N cs l₁ l₂
+          then = falling-among N cs forth l₁ l₂ (left-member forth back) (fell .bounded) (d .falling)
 
   -- ---- all steps
   -- What they give: r says whether one has lowered a bound, and where none has, all demands hold.
   pub record Ascended (l l′ : List ℕ) (r : Bool) : Type 0 where
-    pub falling : Falling P cs l l′
+    pub falling : Falling N cs l l′
     pub quiet : r ≡ false → (l′ ≡ l) × Settled back l′
     pub loud : r ≡ true → total l′ < total l
 
   -- On the way: step i, which is step s of its round, is the next.
   pub record Ascending (l₀ l : List ℕ) (i s : ℕ) (h : Bool) : Type 0 where
-    pub falling : Falling P cs l₀ l
+    pub falling : Falling N cs l₀ l
     pub step : s ≡ i % L
-    pub quiet : h ≡ false → (l ≡ l₀) × ((m : ℕ) → m < i → Settled (allInParts P (own m)) l)
+    pub quiet : h ≡ false → (l ≡ l₀) × ((m : ℕ) → m < i → Settled (edges (own m)) l)
     pub loud : h ≡ true → total l < total l₀
 
-  pub ascending-first : (l : List ℕ) → Bounded P cs l → 0 ≡ 0 % L → Ascending l l 0 0 false
+  pub ascending-first : (l : List ℕ) → Bounded N cs l → 0 ≡ 0 % L → Ascending l l 0 0 false
   ascending-first l b e =
       record {
-        falling = falling-first P cs l b;
+        falling = falling-first N cs l b;
         step = e;
         quiet = λ p. (refl, λ m w. absurd (omega arith));
         loud = λ p. absurd (true≢false (sym p));
@@ -123,17 +128,17 @@ module _ (P : ℕ) (low up far : List ℕ) (L n K : ℕ) where
         → Ascending l₀ l′ next s′ r
     ascending-next l′ r next a s′ e = go (a .either)
       where
-        fell : Falling P cs l₀ l′
-        fell = falling-then P cs l₀ l l′ (u .falling) (a .falling)
+        fell : Falling N cs l₀ l′
+        fell = falling-then N cs l₀ l l′ (u .falling) (a .falling)
 
         Was : List ℕ → Type 0
-        Was x = (m : ℕ) → m < i → Settled (allInParts P (own m)) x
+        Was x = (m : ℕ) → m < i → Settled (edges (own m)) x
 
-        each : (m : ℕ) → m < i + 1 → Dec (m ≡ i) → Settled (allInParts P (own i)) l′ → Was l′ → Settled (allInParts P (own m)) l′
+        each : (m : ℕ) → m < i + 1 → Dec (m ≡ i) → Settled (edges (own i)) l′ → Was l′ → Settled (edges (own m)) l′
         each m w (yes p) t k = rw p t
         each m w (no p) t k = k m (omega arith)
 
-        go : ((r ≡ h) × (l′ ≡ l) × (next ≡ i + 1) × Settled (allInParts P (own i)) l′) ⊎ ((r ≡ true) × (total l′ < total l))
+        go : ((r ≡ h) × (l′ ≡ l) × (next ≡ i + 1) × Settled (edges (own i)) l′) ⊎ ((r ≡ true) × (total l′ < total l))
             → Ascending l₀ l′ next s′ r
         go (inl q) =
             record {
@@ -160,7 +165,7 @@ module _ (P : ℕ) (low up far : List ℕ) (L n K : ℕ) where
         → total l′ * (K + 2) + (K + 1 - next) < total l * (K + 2) + (K + 1 - i)
     ascending-less w l′ r next a = go (a .either)
       where
-        go : ((r ≡ h) × (l′ ≡ l) × (next ≡ i + 1) × Settled (allInParts P (own i)) l′) ⊎ ((r ≡ true) × (total l′ < total l))
+        go : ((r ≡ h) × (l′ ≡ l) × (next ≡ i + 1) × Settled (edges (own i)) l′) ⊎ ((r ≡ true) × (total l′ < total l))
             → total l′ * (K + 2) + (K + 1 - next) < total l * (K + 2) + (K + 1 - i)
         go (inl q) = omega (arith, ap (λ x. total x * (K + 2)) (q .1), q .2)
         go (inr q) = omega (arith, mul-le-mul-right (K + 2) (q .1))
@@ -169,6 +174,6 @@ module _ (P : ℕ) (low up far : List ℕ) (L n K : ℕ) where
     ascending-last w =
         record {
           falling = u .falling;
-          quiet = λ p. (u .quiet p .0, back-settled P up far L n K l (λ m q. u .quiet p .1 m (omega arith)));
+          quiet = λ p. (u .quiet p .0, back-settled up far L n K l (λ m q. u .quiet p .1 m (omega arith)));
           loud = u .loud;
         }

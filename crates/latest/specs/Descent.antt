@@ -14,40 +14,44 @@ use Rattle.sweeps.specs.Order.{sideOf, forthAt}
 use Rattle.sweeps.specs.Ends.{Earlier, forth-at-ends}
 use Rattle.paths.specs.Places.{at}
 use Rattle.paths.specs.Constraint.{Constraint}
-use Rattle.checks.specs.InParts.{inParts, allInParts}
+use Rattle.checks.specs.InParts.{edge, edges}
 use Rattle.lowering.specs.Lowered.{Bounds, bounds, lowersOf}
 use Rattle.lowering.specs.Bounded.{Bounded, bounded-some}
 use Rattle.lowering.specs.Outcome.{Settled, Falling, falling-first, falling-then, checks-lowers, checks-falling}
 use Rattle.lowering.specs.Settling.{settled-kept, lowers-other, star-settles}
 use Rattle.bounding.specs.Turns.{afterOf, Able, Turn, turn-first, turn-able, turn-more, turn-last}
-use Rattle.latest.specs.Steps.{forthParts, forth-member, forth-settled}
+use Rattle.latest.specs.Steps.{forthEdges, forth-member, forth-settled}
 
-module _ (P : ℕ) (low far : List ℕ) (L n K : ℕ) where
+module _ (low far : List ℕ) (L n K : ℕ) where
+  -- the number of moments
+  abbrev N : ℕ
+  N = K + n + 1
+
   abbrev own : ℕ → List Demand
   own i = forthAt low far L n K i
 
   abbrev cs : List Constraint
-  cs = forthParts P low far L n K
+  cs = forthEdges low far L n K
 
   -- What the checks give from step `from` down, when they need not go below the moment `floor`, nor below `lowest` at the end: all
   -- demands hold where they went over all steps.
   pub record Descended (from floor : ℕ) (l₀ l : List ℕ) (lowest : ℕ) : Type 0 where
-    pub falling : Falling P cs l₀ l
+    pub falling : Falling N cs l₀ l
     pub bottom : lowest ≤ floor
     pub settled : floor ≡ 0 → from ≡ K → Settled cs l
 
   -- On the way: step i, which is step s of its round, is past.
   pub record Descending (from floor : ℕ) (l₀ l : List ℕ) (i s lowest : ℕ) : Type 0 where
-    pub falling : Falling P cs l₀ l
+    pub falling : Falling N cs l₀ l
     pub step : s ≡ i % L
     pub inside : i ≤ from
     pub bottom : lowest ≤ floor
-    pub past : floor ≡ 0 → from ≡ K → (m : ℕ) → i ≤ m → m < K → Settled (allInParts P (own m)) l
+    pub past : floor ≡ 0 → from ≡ K → (m : ℕ) → i ≤ m → m < K → Settled (edges (own m)) l
 
-  pub descending-first : (from floor s : ℕ) (l : List ℕ) → Bounded P cs l → s ≡ from % L → Descending from floor l l from s floor
+  pub descending-first : (from floor s : ℕ) (l : List ℕ) → Bounded N cs l → s ≡ from % L → Descending from floor l l from s floor
   descending-first from floor s l b e =
       record {
-        falling = falling-first P cs l b;
+        falling = falling-first N cs l b;
         step = e;
         inside = omega arith;
         bottom = omega arith;
@@ -55,10 +59,10 @@ module _ (P : ℕ) (low far : List ℕ) (L n K : ℕ) where
       }
 
   -- the ends of what is checked at step i
-  ends : (i : ℕ) (c : Constraint) → List·Memᴰ c (allInParts P (own i)) → (c .from ≡ suc i) × Earlier K i (c .to)
-  ends i c m = go (Memᴰ·of-map (inParts P) (own i) m)
+  ends : (i : ℕ) (c : Constraint) → List·Memᴰ c (edges (own i)) → (c .from ≡ suc i) × Earlier K i (c .to)
+  ends i c m = go (Memᴰ·of-map edge (own i) m)
     where
-      go : (d : Demand) × List·Memᴰ d (own i) × (inParts P d ≡ c) → (c .from ≡ suc i) × Earlier K i (c .to)
+      go : (d : Demand) × List·Memᴰ d (own i) × (edge d ≡ c) → (c .from ≡ suc i) × Earlier K i (c .to)
       go d = rw (← d .2) (forth-at-ends low far L n K i (d .0) (d .1))
 
   apart : (i m to : ℕ) → Earlier K i to → i ≤ m → m < K → to ≢ suc m
@@ -81,70 +85,73 @@ module _ (P : ℕ) (low far : List ℕ) (L n K : ℕ) where
     unfolding side
     same = rw (e, f, add-one i) refl
 
-    begun : Turn P (own i) start (own i) start
+    begun : Turn (own i) start (own i) start
     unfolding start
     begun =
-        turn-first P (own i) (bounds l lowest)
-        (bounded-some P cs (allInParts P (own i)) l (forth-member P low far L n K i inside) (u .falling .bounded))
+        turn-first (own i) (bounds l lowest)
+        (record {
+          moments = N;
+          bounded = bounded-some N cs (edges (own i)) l (forth-member low far L n K i inside) (u .falling .bounded);
+        })
 
-    pub order-able : Able P (d ∷ []) l
+    pub order-able : Able (d ∷ []) l
     unfolding start
-    order-able = turn-able P (own i) start (own i) (d ∷ []) side same start begun
+    order-able = turn-able (own i) start (own i) (d ∷ []) side same start begun
 
-    module _ (l₁ : List ℕ) (m₁ : ℕ) (c : bounds l₁ m₁ ≡ afterOf P (d ∷ []) (bounds l lowest)) where
-      ordered : Turn P (own i) start side (bounds l₁ m₁)
+    module _ (l₁ : List ℕ) (m₁ : ℕ) (c : bounds l₁ m₁ ≡ afterOf (d ∷ []) (bounds l lowest)) where
+      ordered : Turn (own i) start side (bounds l₁ m₁)
       unfolding start
-      ordered = turn-more P (own i) start (own i) (d ∷ []) side same start begun (bounds l₁ m₁) c
+      ordered = turn-more (own i) start (own i) (d ∷ []) side same start begun (bounds l₁ m₁) c
 
-      pub lower-able : Able P (sideOf false low far K r i 1 n) l₁
+      pub lower-able : Able (sideOf false low far K r i 1 n) l₁
       unfolding side
-      lower-able = turn-able P (own i) start side side [] (sym (append-nil side)) (bounds l₁ m₁) ordered
+      lower-able = turn-able (own i) start side side [] (sym (append-nil side)) (bounds l₁ m₁) ordered
 
-      module _ (l₂ : List ℕ) (m₂ : ℕ) (k : bounds l₂ m₂ ≡ afterOf P (sideOf false low far K r i 1 n) (bounds l₁ m₁)) where
-        after : bounds l₂ m₂ ≡ lowersOf (allInParts P (own i)) (bounds l lowest)
+      module _ (l₂ : List ℕ) (m₂ : ℕ) (k : bounds l₂ m₂ ≡ afterOf (sideOf false low far K r i 1 n) (bounds l₁ m₁)) where
+        after : bounds l₂ m₂ ≡ lowersOf (edges (own i)) (bounds l lowest)
         unfolding start side
         after =
-            turn-last P (own i) start (bounds l₂ m₂)
-            (turn-more P (own i) start side side [] (sym (append-nil side)) (bounds l₁ m₁) ordered (bounds l₂ m₂) k)
+            turn-last (own i) start (bounds l₂ m₂)
+            (turn-more (own i) start side side [] (sym (append-nil side)) (bounds l₁ m₁) ordered (bounds l₂ m₂) k)
 
-        fell : Falling P cs l l₂
+        fell : Falling N cs l l₂
         fell =
-            checks-falling P cs (bounds l lowest) (bounds l₂ m₂) (u .falling .bounded) (allInParts P (own i))
-            (forth-member P low far L n K i inside) after
+            checks-falling N cs (bounds l lowest) (bounds l₂ m₂) (u .falling .bounded) (edges (own i))
+            (forth-member low far L n K i inside) after
 
         -- later steps keep what is settled,
-        kept : (m : ℕ) → i < m → m < K → Settled (allInParts P (own m)) l → Settled (allInParts P (own m)) l₂
+        kept : (m : ℕ) → i < m → m < K → Settled (edges (own m)) l → Settled (edges (own m)) l₂
         kept m a w h =
-            settled-kept (allInParts P (own m)) l l₂ h (fell .falls)
+            settled-kept (edges (own m)) l l₂ h (fell .falls)
             (λ b q.
             ap (λ (t : Bounds). at (t .late) (b .from)) after
-            ∙ lowers-other P cs (allInParts P (own i)) (bounds l lowest) (forth-member P low far L n K i inside) (u .falling .bounded)
+            ∙ lowers-other N cs (edges (own i)) (bounds l lowest) (forth-member low far L n K i inside) (u .falling .bounded)
             (b .from)
             (λ z p x. apart i m (z .to) (ends i z p .1) (omega arith) w (x ∙ ends m b q .0)))
 
         -- and this step settles its own.
-        settles : Settled (allInParts P (own i)) l₂
+        settles : Settled (edges (own i)) l₂
         settles =
-            subst (λ (t : Bounds). Settled (allInParts P (own i)) (t .late)) (sym after)
-            (star-settles P cs (suc i) (allInParts P (own i)) (bounds l lowest) (forth-member P low far L n K i inside)
+            subst (λ (t : Bounds). Settled (edges (own i)) (t .late)) (sym after)
+            (star-settles N cs (suc i) (edges (own i)) (bounds l lowest) (forth-member low far L n K i inside)
             (u .falling .bounded) (λ z p. (ends i z p .0, apart i i (z .to) (ends i z p .1) (omega arith) inside)))
 
         pub descending-next : Descending from floor l₀ l₂ i r m₂
         descending-next =
             record {
-              falling = falling-then P cs l₀ l l₂ (u .falling) fell;
+              falling = falling-then N cs l₀ l l₂ (u .falling) fell;
               step = e;
               inside = omega (arith, u .inside);
               bottom = omega (
                 arith,
                 u .bottom,
-                checks-lowers P cs (bounds l lowest) (bounds l₂ m₂) (u .falling .bounded) (allInParts P (own i))
-                    (forth-member P low far L n K i inside) after .low,
+                checks-lowers N cs (bounds l lowest) (bounds l₂ m₂) (u .falling .bounded) (edges (own i))
+                    (forth-member low far L n K i inside) after .low,
               );
               past = λ z q m a w. pick z q m a w (ℕ-discrete m i);
             }
           where
-            pick : floor ≡ 0 → from ≡ K → (m : ℕ) → i ≤ m → m < K → Dec (m ≡ i) → Settled (allInParts P (own m)) l₂
+            pick : floor ≡ 0 → from ≡ K → (m : ℕ) → i ≤ m → m < K → Dec (m ≡ i) → Settled (edges (own m)) l₂
             pick z q m a w (yes p) = rw p settles
             pick z q m a w (no p) = kept m (omega arith) w (u .past z q m (omega arith) w)
 
@@ -155,7 +162,7 @@ module _ (P : ℕ) (low far : List ℕ) (L n K : ℕ) where
         record {
           falling = u .falling;
           bottom = u .bottom;
-          settled = λ z f. forth-settled P low far L n K l (λ m w. u .past z f m (omega arith) w);
+          settled = λ z f. forth-settled low far L n K l (λ m w. u .past z f m (omega arith) w);
         }
 
     pub descending-done : i < lowest → Descended from floor l₀ l lowest

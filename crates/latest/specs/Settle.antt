@@ -7,23 +7,27 @@ use native.Mathlib.Omega.{arith}
 use Rattle.paths.specs.Constraint.{Constraint}
 use Rattle.lowering.specs.Bounded.{Bounded, bounded-some}
 use Rattle.lowering.specs.Outcome.{total, Settled, Falling, Greatest, falling-first, falling-then, falling-among}
-use Rattle.latest.specs.Steps.{forthParts, backParts, stepParts, left-member, either-settled}
+use Rattle.latest.specs.Steps.{forthEdges, backEdges, stepEdges, left-member, either-settled}
 use Rattle.latest.specs.Descent.{Descended}
 use Rattle.latest.specs.Ascent.{Ascended}
 
-module _ (P : ℕ) (low up far : List ℕ) (L n K : ℕ) where
+module _ (low up far : List ℕ) (L n K : ℕ) where
+  -- the number of moments
+  abbrev N : ℕ
+  N = K + n + 1
+
   abbrev forth : List Constraint
-  forth = forthParts P low far L n K
+  forth = forthEdges low far L n K
 
   abbrev back : List Constraint
-  back = backParts P up far L n K
+  back = backEdges up far L n K
 
   abbrev cs : List Constraint
-  cs = stepParts P low up far L n K
+  cs = stepEdges low up far L n K
 
   -- h says whether to go on
   pub record Settling (l₀ l : List ℕ) (h : Bool) : Type 0 where
-    pub falling : Falling P cs l₀ l
+    pub falling : Falling N cs l₀ l
     pub settled : h ≡ false → Settled cs l
 
   -- what falls: the bounds, or at last the wish to go on
@@ -31,26 +35,26 @@ module _ (P : ℕ) (low up far : List ℕ) (L n K : ℕ) where
   measure l h = total l * 2 + cond h 1 0
 
   -- after the first checks forth
-  pub settling-first : (l₀ l : List ℕ) (r : Bool) → Ascended P low up far L n K l₀ l r → Settling l l true
+  pub settling-first : (l₀ l : List ℕ) (r : Bool) → Ascended low up far L n K l₀ l r → Settling l l true
   settling-first l₀ l r a =
-      record { falling = falling-first P cs l (a .falling .bounded); settled = λ p. absurd (true≢false p) }
+      record { falling = falling-first N cs l (a .falling .bounded); settled = λ p. absurd (true≢false p) }
 
   module _ (l₀ l : List ℕ) (h : Bool) (u : Settling l₀ l h) where
-    pub forth-able : Bounded P forth l
-    forth-able = bounded-some P cs forth l (left-member forth back) (u .falling .bounded)
+    pub forth-able : Bounded N forth l
+    forth-able = bounded-some N cs forth l (left-member forth back) (u .falling .bounded)
 
-    module _ (l₁ : List ℕ) (bottom : ℕ) (d : Descended P low far L n K K 0 l l₁ bottom) where
-      down : Falling P cs l l₁
-      down = falling-among P cs forth l l₁ (left-member forth back) (u .falling .bounded) (d .falling)
+    module _ (l₁ : List ℕ) (bottom : ℕ) (d : Descended low far L n K K 0 l l₁ bottom) where
+      down : Falling N cs l l₁
+      down = falling-among N cs forth l l₁ (left-member forth back) (u .falling .bounded) (d .falling)
 
-      pub all-able : Bounded P cs l₁
+      pub all-able : Bounded N cs l₁
       all-able = down .bounded
 
-      module _ (l₂ : List ℕ) (r : Bool) (a : Ascended P low up far L n K l₁ l₂ r) where
+      module _ (l₂ : List ℕ) (r : Bool) (a : Ascended low up far L n K l₁ l₂ r) where
         pub settling-next : Settling l₀ l₂ r
         settling-next =
             record {
-              falling = falling-then P cs l₀ l l₂ (u .falling) (falling-then P cs l l₁ l₂ down (a .falling));
+              falling = falling-then N cs l₀ l l₂ (u .falling) (falling-then N cs l l₁ l₂ down (a .falling));
               settled = λ p.
                   let q = a .quiet p in
                   either-settled forth back l₂ (subst (Settled forth) (sym (q .0)) (d .settled refl refl)) (q .1);
@@ -64,9 +68,9 @@ module _ (P : ℕ) (low up far : List ℕ) (L n K : ℕ) where
             go false q = rw q (omega (arith, a .falling .sum, down .sum))
 
     -- at the end, all together
-    module _ (begin : List ℕ) (r : Bool) (a : Ascended P low up far L n K begin l₀ r) where
-      pub settling-falling : Falling P cs begin l
-      settling-falling = falling-then P cs begin l₀ l (a .falling) (u .falling)
+    module _ (begin : List ℕ) (r : Bool) (a : Ascended low up far L n K begin l₀ r) where
+      pub settling-falling : Falling N cs begin l
+      settling-falling = falling-then N cs begin l₀ l (a .falling) (u .falling)
 
-      pub settling-last : h ≡ false → Greatest P cs begin l
+      pub settling-last : h ≡ false → Greatest N cs begin l
       settling-last p = record { falling = settling-falling; settled = u .settled p }

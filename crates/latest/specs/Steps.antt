@@ -9,69 +9,68 @@ use Rattle.sweeps.specs.Order.{forthAt, forthOf, backAt, backOf}
 use Rattle.sweeps.specs.Covered.{Among, forth-among, among-forth, back-among, among-back}
 use Rattle.paths.specs.Places.{at}
 use Rattle.paths.specs.Constraint.{Constraint, Holds}
-use Rattle.checks.specs.InParts.{inParts, allInParts}
+use Rattle.checks.specs.InParts.{edge, edges}
 use Rattle.lowering.specs.Lowered.{none}
 use Rattle.lowering.specs.Outcome.{Settled}
 
 -- from below: a step is not before the one before it, and its tightest guards from below
-unfoldable pub forthParts : ℕ → List ℕ → List ℕ → ℕ → ℕ → ℕ → List Constraint
-forthParts P low far L n K = allInParts P (forthOf low far L n K 0 K)
+unfoldable pub forthEdges : List ℕ → List ℕ → ℕ → ℕ → ℕ → List Constraint
+forthEdges low far L n K = edges (forthOf low far L n K 0 K)
 
 -- from above: its tightest guards from above
-unfoldable pub backParts : ℕ → List ℕ → List ℕ → ℕ → ℕ → ℕ → List Constraint
-backParts P up far L n K = allInParts P (backOf up far L n K K)
+unfoldable pub backEdges : List ℕ → List ℕ → ℕ → ℕ → ℕ → List Constraint
+backEdges up far L n K = edges (backOf up far L n K K)
 
 -- both
-abbrev pub stepParts : ℕ → List ℕ → List ℕ → List ℕ → ℕ → ℕ → ℕ → List Constraint
-stepParts P low up far L n K = forthParts P low far L n K ++ backParts P up far L n K
+abbrev pub stepEdges : List ℕ → List ℕ → List ℕ → ℕ → ℕ → ℕ → List Constraint
+stepEdges low up far L n K = forthEdges low far L n K ++ backEdges up far L n K
 
--- ---- lists of demands in parts
-module _ (P : ℕ) where
-  -- what is in one list is in another
-  pub parts-among : (xs ys : List Demand) → ((d : Demand) → List·Memᴰ d xs → List·Memᴰ d ys)
-      → (c : Constraint) → List·Memᴰ c (allInParts P xs) → List·Memᴰ c (allInParts P ys)
-  parts-among xs ys h c m = go (Memᴰ·of-map (inParts P) xs m)
-    where
-      go : (d : Demand) × List·Memᴰ d xs × (inParts P d ≡ c) → List·Memᴰ c (allInParts P ys)
-      go d = rw (← d .2) (Memᴰ·map (inParts P) (h (d .0) (d .1)))
+-- ---- lists of demands
+-- what is in one list is in another
+pub edges-among : (xs ys : List Demand) → ((d : Demand) → List·Memᴰ d xs → List·Memᴰ d ys)
+    → (c : Constraint) → List·Memᴰ c (edges xs) → List·Memᴰ c (edges ys)
+edges-among xs ys h c m = go (Memᴰ·of-map edge xs m)
+  where
+    go : (d : Demand) × List·Memᴰ d xs × (edge d ≡ c) → List·Memᴰ c (edges ys)
+    go d = rw (← d .2) (Memᴰ·map edge (h (d .0) (d .1)))
 
-  -- what holds step by step holds of all
-  parts-settled : (own : ℕ → List Demand) (ds : List Demand) (K : ℕ) (l : List ℕ)
-      → ((d : Demand) → List·Memᴰ d ds → Among own 0 K d)
-      → ((i : ℕ) → i < K → Settled (allInParts P (own i)) l) → Settled (allInParts P ds) l
-  parts-settled own ds K l among h c m = go (Memᴰ·of-map (inParts P) ds m)
-    where
-      go : (d : Demand) × List·Memᴰ d ds × (inParts P d ≡ c) → at l (c .from) < none → Holds c (at l)
-      go d =
-          let a = among (d .0) (d .1) in
-          rw (← d .2) (h (a .step) (omega (arith, a .last)) (inParts P (d .0)) (Memᴰ·map (inParts P) (a .member)))
+-- what holds step by step holds of all
+edges-settled : (own : ℕ → List Demand) (ds : List Demand) (K : ℕ) (l : List ℕ)
+    → ((d : Demand) → List·Memᴰ d ds → Among own 0 K d)
+    → ((i : ℕ) → i < K → Settled (edges (own i)) l) → Settled (edges ds) l
+edges-settled own ds K l among h c m = go (Memᴰ·of-map edge ds m)
+  where
+    go : (d : Demand) × List·Memᴰ d ds × (edge d ≡ c) → at l (c .from) < none → Holds c (at l)
+    go d =
+        let a = among (d .0) (d .1) in
+        rw (← d .2) (h (a .step) (omega (arith, a .last)) (edge (d .0)) (Memᴰ·map edge (a .member)))
 
 -- ---- one step among all
-module _ (P : ℕ) (low far : List ℕ) (L n K : ℕ) where
-  pub forth-member : (i : ℕ) → i < K → (c : Constraint) → List·Memᴰ c (allInParts P (forthAt low far L n K i))
-      → List·Memᴰ c (forthParts P low far L n K)
-  unfolding forthParts
+module _ (low far : List ℕ) (L n K : ℕ) where
+  pub forth-member : (i : ℕ) → i < K → (c : Constraint) → List·Memᴰ c (edges (forthAt low far L n K i))
+      → List·Memᴰ c (forthEdges low far L n K)
+  unfolding forthEdges
   forth-member i l =
-      parts-among P (forthAt low far L n K i) (forthOf low far L n K 0 K)
+      edges-among (forthAt low far L n K i) (forthOf low far L n K 0 K)
       (λ d m. among-forth low far L n K 0 K i d (omega arith) (omega arith) m)
 
-  pub forth-settled : (l : List ℕ) → ((i : ℕ) → i < K → Settled (allInParts P (forthAt low far L n K i)) l)
-      → Settled (forthParts P low far L n K) l
-  unfolding forthParts
+  pub forth-settled : (l : List ℕ) → ((i : ℕ) → i < K → Settled (edges (forthAt low far L n K i)) l)
+      → Settled (forthEdges low far L n K) l
+  unfolding forthEdges
   forth-settled l =
-      parts-settled P (forthAt low far L n K) (forthOf low far L n K 0 K) K l (forth-among low far L n K 0 K)
+      edges-settled (forthAt low far L n K) (forthOf low far L n K 0 K) K l (forth-among low far L n K 0 K)
 
-module _ (P : ℕ) (up far : List ℕ) (L n K : ℕ) where
-  pub back-member : (i : ℕ) → i < K → (c : Constraint) → List·Memᴰ c (allInParts P (backAt up far L n K i))
-      → List·Memᴰ c (backParts P up far L n K)
-  unfolding backParts
+module _ (up far : List ℕ) (L n K : ℕ) where
+  pub back-member : (i : ℕ) → i < K → (c : Constraint) → List·Memᴰ c (edges (backAt up far L n K i))
+      → List·Memᴰ c (backEdges up far L n K)
+  unfolding backEdges
   back-member i l =
-      parts-among P (backAt up far L n K i) (backOf up far L n K K) (λ d m. among-back up far L n K K i d (omega arith) m)
+      edges-among (backAt up far L n K i) (backOf up far L n K K) (λ d m. among-back up far L n K K i d (omega arith) m)
 
-  pub back-settled : (l : List ℕ) → ((i : ℕ) → i < K → Settled (allInParts P (backAt up far L n K i)) l)
-      → Settled (backParts P up far L n K) l
-  unfolding backParts
-  back-settled l = parts-settled P (backAt up far L n K) (backOf up far L n K K) K l (back-among up far L n K K)
+  pub back-settled : (l : List ℕ) → ((i : ℕ) → i < K → Settled (edges (backAt up far L n K i)) l)
+      → Settled (backEdges up far L n K) l
+  unfolding backEdges
+  back-settled l = edges-settled (backAt up far L n K) (backOf up far L n K K) K l (back-among up far L n K K)
 
 -- ---- one side among both
 module _ (xs ys : List Constraint) where

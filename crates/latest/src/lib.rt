@@ -5,11 +5,11 @@ use constraints::following;
 use constraints::not_after;
 use last_resets::preceding;
 ghost use mathlib.Core.Path.{_≡_};
-ghost use Prim.Native.Nat.{_-_, _%_, _≤_, _<_};
+ghost use Prim.Native.Nat.{_+_, _-_, _%_, _≤_, _<_};
 ghost use Rattle.ways.specs.Forth.{Going};
 ghost use Rattle.lowering.specs.Bounded.{Bounded};
 ghost use Rattle.lowering.specs.Outcome.{Greatest};
-ghost use Rattle.latest.specs.Steps.{forthParts, stepParts};
+ghost use Rattle.latest.specs.Steps.{forthEdges, stepEdges};
 ghost use Rattle.latest.specs.Descent.{Descended};
 ghost use Rattle.latest.specs.Ascent.{Stepped, Ascended};
 
@@ -32,15 +32,14 @@ fn descend(
     steps: usize,
     clocks: usize,
     total: usize,
-    parts: u64,
     from: usize,
     first: usize,
     floor: usize,
     late: &mut [u64],
 ) -> usize
     requires { ⌜ Going (now low) (now far) steps clocks total × (from ≤ total) × (first ≡ from % steps)
-        × Bounded parts (forthParts parts (now low) (now far) steps clocks total) (now late) ⌝ }
-    ensures { λ r. ⌜ Descended parts (now (low .entry)) (now (far .entry)) steps clocks total from floor
+        × Bounded (total + clocks + 1) (forthEdges (now low) (now far) steps clocks total) (now late) ⌝ }
+    ensures { λ r. ⌜ Descended (now (low .entry)) (now (far .entry)) steps clocks total from floor
         (now (late .entry)) (now (late .exit)) r ⌝ }
 {
     let mut i = from;
@@ -52,8 +51,8 @@ fn descend(
         }
         s = preceding(s, steps);
         i -= 1;
-        let ordered = bound(parts, not_after(i + 1, i), late, lowest);
-        lowest = bound_side(false, low, far, clocks, total, s, i, parts, late, ordered);
+        let ordered = bound(not_after(i + 1, i), late, lowest);
+        lowest = bound_side(false, low, far, clocks, total, s, i, late, ordered);
     }
     lowest
 }
@@ -74,7 +73,6 @@ fn ascend_step(
     steps: usize,
     clocks: usize,
     total: usize,
-    parts: u64,
     s: usize,
     i: usize,
     left: usize,
@@ -82,11 +80,11 @@ fn ascend_step(
     hit: bool,
 ) -> Way
     requires { ⌜ Going (now low) (now far) steps clocks total × Going (now up) (now far) steps clocks total × (i < total)
-        × (s ≡ i % steps) × Bounded parts (stepParts parts (now low) (now up) (now far) steps clocks total) (now late) ⌝ }
-    ensures { λ r. ⌜ Stepped parts (now (low .entry)) (now (up .entry)) (now (far .entry)) steps clocks total i hit
+        × (s ≡ i % steps) × Bounded (total + clocks + 1) (stepEdges (now low) (now up) (now far) steps clocks total) (now late) ⌝ }
+    ensures { λ r. ⌜ Stepped (now (low .entry)) (now (up .entry)) (now (far .entry)) steps clocks total i hit
         (now (late .entry)) (now (late .exit)) (r .hit) (r .next) ⌝ }
 {
-    let lowest = bound_side(true, up, far, clocks, total, s, i, parts, late, NEVER);
+    let lowest = bound_side(true, up, far, clocks, total, s, i, late, NEVER);
     if NEVER <= lowest {
         return Way {
             hit,
@@ -102,18 +100,7 @@ fn ascend_step(
         };
     }
     let after = following(s, steps);
-    let next = descend(
-        low,
-        far,
-        steps,
-        clocks,
-        total,
-        parts,
-        i + 1,
-        after,
-        i + 1,
-        late,
-    );
+    let next = descend(low, far, steps, clocks, total, i + 1, after, i + 1, late);
     Way {
         hit: true,
         next,
@@ -140,13 +127,12 @@ fn ascend(
     steps: usize,
     clocks: usize,
     total: usize,
-    parts: u64,
     left: usize,
     late: &mut [u64],
 ) -> bool
     requires { ⌜ Going (now low) (now far) steps clocks total × Going (now up) (now far) steps clocks total
-        × Bounded parts (stepParts parts (now low) (now up) (now far) steps clocks total) (now late) ⌝ }
-    ensures { λ r. ⌜ Ascended parts (now (low .entry)) (now (up .entry)) (now (far .entry)) steps clocks total
+        × Bounded (total + clocks + 1) (stepEdges (now low) (now up) (now far) steps clocks total) (now late) ⌝ }
+    ensures { λ r. ⌜ Ascended (now (low .entry)) (now (up .entry)) (now (far .entry)) steps clocks total
         (now (late .entry)) (now (late .exit)) r ⌝ }
 {
     let mut way = Way {
@@ -164,7 +150,6 @@ fn ascend(
             steps,
             clocks,
             total,
-            parts,
             s,
             i,
             way.left,
@@ -186,18 +171,17 @@ pub fn settle(
     steps: usize,
     clocks: usize,
     total: usize,
-    parts: u64,
     late: &mut [u64],
 )
     requires { ⌜ Going (now low) (now far) steps clocks total × Going (now up) (now far) steps clocks total × (total % steps ≡ 0)
-        × Bounded parts (stepParts parts (now low) (now up) (now far) steps clocks total) (now late) ⌝ }
-    ensures { λ _. ⌜ Greatest parts (stepParts parts (now (low .entry)) (now (up .entry)) (now (far .entry)) steps clocks total)
+        × Bounded (total + clocks + 1) (stepEdges (now low) (now up) (now far) steps clocks total) (now late) ⌝ }
+    ensures { λ _. ⌜ Greatest (total + clocks + 1) (stepEdges (now (low .entry)) (now (up .entry)) (now (far .entry)) steps clocks total)
         (now (late .entry)) (now (late .exit)) ⌝ }
 {
-    let begun = ascend(low, up, far, steps, clocks, total, parts, 0, late);
+    let begun = ascend(low, up, far, steps, clocks, total, 0, late);
     let mut hit = true;
     while hit {
-        let bottom = descend(low, far, steps, clocks, total, parts, total, 0, 0, late);
-        hit = ascend(low, up, far, steps, clocks, total, parts, 16 * total, late);
+        let bottom = descend(low, far, steps, clocks, total, total, 0, 0, late);
+        hit = ascend(low, up, far, steps, clocks, total, 16 * total, late);
     }
 }

@@ -1,5 +1,5 @@
 -- What solving the rows of a table has found is the answer for k rounds of it.
-use mathlib.Core.Path.{_≡_, refl, sym, ap, subst, _∙_}
+use mathlib.Core.Path.{_≡_, sym, ap, subst, _∙_}
 use mathlib.Core.Bool.{true, false}
 use mathlib.Core.List.{List}
 use Prim.Native.Nat.{ℕ, zero, suc, _+_, _*_, _-_, _≤_, _<_}
@@ -11,30 +11,27 @@ use Rattle.runs.specs.declared.Demand.{Demand}
 use Rattle.runs.specs.declared.Start.{Start}
 use Rattle.runs.specs.Demand.{Starts, startsOf}
 use Rattle.runs.specs.Loop.{Loop}
-use Rattle.constraints.specs.Demands.{demandsOf}
 use Rattle.constraints.specs.Rounds.{length-rounds}
 use Rattle.constraints.specs.Sized.{Sized, partsOf, roundsOf}
 use Rattle.sides.specs.Covers.{covers-satisfies, covers-loop}
-use Rattle.sides.specs.Keys.{keysOf}
-use Rattle.last_resets.specs.Distance.{distancesOf}
 use Rattle.paths.specs.Places.{at, length-written, at-written, drop-written}
-use Rattle.paths.specs.Constraint.{NegativeCycle}
+use Rattle.paths.specs.Constraint.{All, NegativeCycle}
 use Rattle.checks.specs.InParts.{allInParts, satisfies-parts}
 use Rattle.readout.specs.LeastStart.{leastStart}
-use Rattle.relaxing.specs.Rows.{rows, sweep, constraintsOf, Sound}
+use Rattle.relaxing.specs.Rows.{rows, Sound}
 use Rattle.solving.specs.Solved.{LeastSolution, Plans, Cycles, Solved}
 use Rattle.solving.specs.declared.Solution.{Solution}
 use Rattle.solving.specs.declared.Solution.the-variants as solution
 use Rattle.solving.specs.Solve.{Roomy}
 use Rattle.plan.specs.declared.Outcome.{Outcome}
 use Rattle.plan.specs.declared.Outcome.the-variants as outcome
-use Rattle.plan.specs.Answer.{Rooms, rooms, momentsIn, startsIn, Planning, Refuted, Answered}
+use Rattle.plan.specs.Answer.{rooms, momentsIn, startsIn, Planning, Refuted, Answered}
 use Rattle.plan.specs.Asked.{sized-asked}
 use Rattle.plan.specs.Earliest.{Least}
 use Rattle.plan.specs.Smallest.{momentsOf, smallestOf, least-planned}
 use Rattle.plan.specs.Same.{planned-same}
 use Rattle.plan.specs.Refuted.{cycle-is-loop}
-use Rattle.plan.specs.Rows.{rowsOf, rows-cover, rows-proper, rows-sound}
+use Rattle.plan.specs.Rows.{rowsOf, tightest, rows-same, rows-cover, rows-proper, rows-sound, Computed, keysIn}
 
 -- the answer that a solution in so many parts is
 abbrev pub outcomeOf : ℕ → Solution → Outcome
@@ -58,17 +55,19 @@ module _ (t : Table) (v : Start) (k : ℕ) (z : Sized t k) where
   P = partsOf t k
 
   abbrev es : List Demand
-  es = sweep (rowsOf t v k)
+  es = tightest t v k
 
   -- ---- the least solution
   least : (x : ℕ → ℕ) → LeastSolution (rowsOf t v k) x → Least P n σ D x
-  unfolding constraintsOf
   least x h =
       record {
-        solution = covers-satisfies (rows-cover t v k z) P x (omega arith) .0 (satisfies-parts P x es .1 (h .solution));
+        solution = covers-satisfies (rows-cover t v k z) P x (omega arith) .0 (satisfies-parts P x es .1
+            (subst (λ cs. All cs x) (rows-same t v k z) (h .solution)));
         above = λ i m. h .above i (omega (arith, length-rounds t k));
         least = λ y s b u w.
-            h .least y (satisfies-parts P y es .0 (covers-satisfies (rows-cover t v k z) P y (omega arith) .1 s))
+            h .least y
+            (subst (λ cs. All cs y) (sym (rows-same t v k z))
+            (satisfies-parts P y es .0 (covers-satisfies (rows-cover t v k z) P y (omega arith) .1 s)))
             (λ i m. b i (omega (arith, length-rounds t k))) u (omega (arith, length-rounds t k));
       }
 
@@ -76,7 +75,6 @@ module _ (t : Table) (v : Start) (k : ℕ) (z : Sized t k) where
     -- It is the plan.
     found : Plans (rowsOf t v k) times starts room times′ starts′ room′
         → Planning n σ D (rooms times starts room) (rooms times′ starts′ room′) P
-    unfolding constraintsOf
     found f =
         record {
           parts = omega (arith, length-rounds t k);
@@ -107,17 +105,18 @@ module _ (t : Table) (v : Start) (k : ℕ) (z : Sized t k) where
         smallest j p m =
             ap (λ (y : List ℕ). at y (j - 1)) (f .starts)
             ∙ at-written _ n starts (j - 1) (omega arith)
+            ∙ ap (λ cs. leastStart (f .x) cs (K + (j - 1 + 1))) (rows-same t v k z)
             ∙ ap (leastStart (f .x) (allInParts P es)) (omega (arith, length-rounds t k))
 
     -- ---- a cycle is a loop
     looped : (m : ℕ) → Cycles (rowsOf t v k) times starts room times′ starts′ room′ m
         → Refuted n σ D (rooms times starts room) (rooms times′ starts′ room′) m
-    unfolding constraintsOf
     looped m c =
         record {
           loop =
               covers-loop (rows-cover t v k z) (take m room′)
-              (cycle-is-loop P (K + n) es (take m room′) (rows-proper t v k z) (c .cycle) (omega (arith, length-take m room′, c .short)));
+              (cycle-is-loop P (K + n) es (take m room′) (rows-proper t v k z)
+              (subst (λ cs. NegativeCycle cs (take m room′)) (rows-same t v k z) (c .cycle)) (omega (arith, length-take m room′, c .short)));
           few = c .few;
           rest = record { size = c .size; rest = c .rest };
           times = c .times;
@@ -131,13 +130,12 @@ module _ (t : Table) (v : Start) (k : ℕ) (z : Sized t k) where
     solved-answered (solution.Cycle m) f = looped m f
 
 -- ---- the rows as they were computed
-module _ (t : Table) (v : Start) (k : ℕ) (z : Sized t k) (low up far : List ℕ) (e : low ≡ keysOf false t) (f : up ≡ keysOf true t)
-    (g : far ≡ distancesOf t) where
+module _ (t : Table) (v : Start) (k : ℕ) (z : Sized t k) (low up far : List ℕ) (c : Computed t k low up far) where
   same : rowsOf t v k ≡ rows low up far v (t .steps) (t .clocks) (k * t .steps)
   same =
-      sym (ap (λ l. rows l up far v (t .steps) (t .clocks) (k * t .steps)) e
-      ∙ ap (λ l. rows (keysOf false t) l far v (t .steps) (t .clocks) (k * t .steps)) f
-      ∙ ap (λ l. rows (keysOf false t) (keysOf true t) l v (t .steps) (t .clocks) (k * t .steps)) g)
+      sym (ap (λ l. rows l up far v (t .steps) (t .clocks) (k * t .steps)) (c .below)
+      ∙ ap (λ l. rows (keysIn false t k) l far v (t .steps) (t .clocks) (k * t .steps)) (c .above)
+      ∙ ap (λ l. rows (keysIn false t k) (keysIn true t k) l v (t .steps) (t .clocks) (k * t .steps)) (c .distances))
 
   module _ (times starts room : List ℕ) (fit : Roomy (rowsOf t v k) times starts room) where
     -- can be solved,

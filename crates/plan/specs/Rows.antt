@@ -1,50 +1,82 @@
--- The rows of a table and a variant of the start: what their passes check stands for the demands of k rounds.
-use mathlib.Core.Path.{_≡_}
+-- The rows of a table and a variant of the start: what their passes relax is, constraint by constraint, the tightest demands of k rounds
+-- in parts, and these stand for all.
+use mathlib.Core.Path.{_≡_, sym, ap, subst, _∙_}
 use mathlib.Core.Bool.{Bool, true, false}
-use mathlib.Core.List.{List·Memᴰ}
-use Prim.Native.Nat.{ℕ, _+_, _*_, _≤_}
+use mathlib.Core.List.{List, map, List·Memᴰ, Memᴰ·of-map}
+use Prim.Native.Nat.{ℕ, _+_, _*_}
 use native.Mathlib.Omega.{arith}
 use native.Mathlib.Nat.{mul-le-mul-right, mul-le-mul-left, mul-mod-left}
 use Rattle.table.specs.declared.Table.{Table}
 use Rattle.runs.specs.declared.Demand.{Demand}
 use Rattle.runs.specs.declared.Start.{Start}
+use Rattle.runs.specs.Demand.{startsOf}
 use Rattle.runs.specs.DemandRange.{Proper}
-use Rattle.runs.specs.Parts.{bit, gain, loss, bit-small}
+use Rattle.runs.specs.Parts.{bit-small}
 use Rattle.runs.specs.Tools.{Every}
 use Rattle.constraints.specs.Demands.{demandsOf}
 use Rattle.constraints.specs.Sized.{Sized, partsOf, sized-parts, sized-proper}
+use Rattle.scaling.specs.Scaled.{scaledOf, scaled-size}
+use Rattle.scaling.specs.Constants.{tableWith, scaledTable, scaled-small}
 use Rattle.sides.specs.Keys.{keysOf, keys-size}
 use Rattle.sides.specs.Covers.{Covers}
+use Rattle.sides.specs.Filled.{Numbers}
+use Rattle.sides.specs.Scaled.{scaleDemand}
 use Rattle.last_resets.specs.Distance.{distancesOf, distances-size}
+use Rattle.sweeps.specs.Order.{sweepOf}
 use Rattle.sweeps.specs.Covered.{covers-sweep}
-use Rattle.checks.specs.Checks.{unit, Slight}
-use Rattle.relaxing.specs.Rows.{Rows, rows, sweep, Sound}
+use Rattle.sweeps.specs.Scaled.{sweep-scaled}
+use Rattle.checks.specs.InParts.{allInParts, edges, edges-scaled}
+use Rattle.checks.specs.Checks.{Slight}
+use Rattle.relaxing.specs.Rows.{Rows, rows, sweep, constraintsOf, Sound}
+
+-- the keys of one side, with the constants in as many parts as k rounds have moments
+abbrev pub keysIn : Bool → Table → ℕ → List ℕ
+keysIn b t k = keysOf b (scaledTable (partsOf t k) t)
 
 abbrev pub rowsOf : Table → Start → ℕ → Rows
-rowsOf t v k = rows (keysOf false t) (keysOf true t) (distancesOf t) v (t .steps) (t .clocks) (k * t .steps)
+rowsOf t v k = rows (keysIn false t k) (keysIn true t k) (distancesOf t) v (t .steps) (t .clocks) (k * t .steps)
+
+-- the tightest demands, in ticks and in the order of a pass
+abbrev pub tightest : Table → Start → ℕ → List Demand
+tightest t v k = sweepOf (keysOf false t) (keysOf true t) (distancesOf t) (startsOf v) (t .steps) (t .clocks) (k * t .steps)
 
 module _ (t : Table) (v : Start) (k : ℕ) (z : Sized t k) where
-  pub rows-cover : Covers (sweep (rowsOf t v k)) (demandsOf t v k)
+  abbrev P : ℕ
+  P = partsOf t k
+
+  scaled : sweep (rowsOf t v k) ≡ map (scaleDemand P) (tightest t v k)
+  scaled = sweep-scaled t k z P (omega arith) (sized-parts t k z) v
+
+  -- What is relaxed is, constraint by constraint and in the same order, what the demands in ticks are in parts.
+  pub rows-same : constraintsOf (rowsOf t v k) ≡ allInParts P (tightest t v k)
+  unfolding constraintsOf
+  rows-same = ap edges scaled ∙ edges-scaled P (tightest t v k)
+
+  pub rows-cover : Covers (tightest t v k) (demandsOf t v k)
   rows-cover = covers-sweep t k z v
 
-  pub rows-proper : Every (Proper (k * t .steps + t .clocks)) (sweep (rowsOf t v k))
+  pub rows-proper : Every (Proper (k * t .steps + t .clocks)) (tightest t v k)
   rows-proper d m = sized-proper t k z v d (rows-cover .among d m)
 
-  slight : Every (Slight (partsOf t k)) (sweep (rowsOf t v k))
-  slight d m =
-      let p = rows-proper d m in
-      record {
-        from = omega (arith, p .from);
-        to = omega (arith, p .to);
-        gain = omega (arith, mul-le-mul-right (partsOf t k) (p .down), mul-le-mul-left 4000 (sized-parts t k z), bit-small (d .strict));
-        loss = omega (arith, mul-le-mul-right (partsOf t k) (p .up), mul-le-mul-left 4000 (sized-parts t k z));
-      }
+  slight : Every (Slight P) (sweep (rowsOf t v k))
+  slight d m = go (Memᴰ·of-map (scaleDemand P) (tightest t v k) (subst (List·Memᴰ d) scaled m))
+    where
+      go : (e : Demand) × List·Memᴰ e (tightest t v k) × (scaleDemand P e ≡ d) → Slight P d
+      go (e, l, f) =
+          let p = rows-proper e l in
+          subst (Slight P) f
+          (record {
+            from = omega (arith, p .from);
+            to = omega (arith, p .to);
+            gain = omega (arith, mul-le-mul-right P (p .down), mul-le-mul-left 4000 (sized-parts t k z), bit-small (e .strict));
+            loss = omega (arith, mul-le-mul-right P (p .up), mul-le-mul-left 4000 (sized-parts t k z));
+          })
 
   pub rows-sound : Sound (rowsOf t v k)
   rows-sound =
       record {
-        low = keys-size false t;
-        up = keys-size true t;
+        low = keys-size false (scaledTable P t);
+        up = keys-size true (scaledTable P t);
         far = distances-size t;
         some = z .good .steps-some;
         steps = z .good .steps-few;
@@ -52,4 +84,31 @@ module _ (t : Table) (v : Start) (k : ℕ) (z : Sized t k) where
         few = z .few;
         whole = mul-mod-left k (t .steps);
         slight = slight;
+      }
+
+-- ---- the rows as they are computed, from the row of scaled constants
+pub record Computed (t : Table) (k : ℕ) (low up far : List ℕ) : Type 0 where
+  pub below : low ≡ keysIn false t k
+  pub above : up ≡ keysIn true t k
+  pub distances : far ≡ distancesOf t
+
+module _ (t : Table) (k : ℕ) (z : Sized t k) (Q : ℕ) (q : Q ≡ partsOf t k) (cs : List ℕ) (e : cs ≡ scaledOf Q t) where
+  same : cs ≡ scaledOf (partsOf t k) t
+  same = e ∙ ap (λ P. scaledOf P t) q
+
+  pub scaled-numbers : Numbers t cs
+  scaled-numbers =
+      subst (Numbers t) (sym same)
+      (record {
+        size = scaled-size (partsOf t k) t;
+        small = scaled-small (partsOf t k) t (z .good) (sized-parts t k z);
+      })
+
+  pub rows-computed : (low up far : List ℕ) → low ≡ keysOf false (tableWith cs t) → up ≡ keysOf true (tableWith cs t)
+      → far ≡ distancesOf t → Computed t k low up far
+  rows-computed low up far f g h =
+      record {
+        below = f ∙ ap (λ l. keysOf false (tableWith l t)) same;
+        above = g ∙ ap (λ l. keysOf true (tableWith l t)) same;
+        distances = h;
       }

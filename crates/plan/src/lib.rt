@@ -4,6 +4,7 @@ use asking::admit;
 use decode::parse;
 use last_resets::distances;
 use runs::Start;
+use scaling::scaled;
 use sides::keys;
 use solving::Solution;
 use spaces::solve_here;
@@ -36,7 +37,7 @@ fn told(parts: u64, found: Solution) -> Outcome
 }
 
 // The plan of k rounds, or a loop.
-pub fn plan_rounds(
+fn plan_rounds(
     t: Table,
     start: Start,
     k: usize,
@@ -50,8 +51,10 @@ pub fn plan_rounds(
         (rooms (now (times .exit)) (now (starts .exit)) (now (room .exit))) a ⌝ }
 {
     let total = k * t.steps;
-    let low = keys(t, false);
-    let up = keys(t, true);
+    let parts = (total + t.clocks + 1) as u64;
+    let constants = scaled(t, parts);
+    let low = keys(t, &constants, false);
+    let up = keys(t, &constants, true);
     let far = distances(t);
     let found = solve_here(
         &low,
@@ -65,7 +68,7 @@ pub fn plan_rounds(
         starts,
         room,
     );
-    told((total + t.clocks + 1) as u64, found)
+    told(parts, found)
 }
 
 // The question, after the table.

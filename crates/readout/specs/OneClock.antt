@@ -1,42 +1,40 @@
 -- What the demands of a pass ask of the start of one clock: only its own guards from below, before its first reset, ask something.
-use mathlib.Core.Path.{_≡_, refl, sym, ap, _∙_}
+use mathlib.Core.Path.{_≡_, sym, ap, _∙_}
 use mathlib.Core.Logic.{_⊎_, inl, inr, _≢_, ⊎-elim}
 use mathlib.Core.Bool.{false}
 use mathlib.Core.List.{List, [], _∷_, _++_, List·Memᴰ, Memᴰ·of-map, map-append, List·Memᴰ·cases-cons, List·Memᴰ·not-nil}
-use Prim.Native.Nat.{ℕ, zero, suc, _+_, _*_, _-_, _%_, _≤_, _<_, max}
+use Prim.Native.Nat.{ℕ, zero, suc, _+_, _-_, _%_, _≤_, _<_}
 use native.Mathlib.Omega.{arith}
 use native.Mathlib.Decide.{ℕ-discrete}
-use native.Mathlib.Numerals.{add-one}
-use lib.Dec.{eqb, eqb·suc-zero}
 use lib.ListN.{getD}
 use Rattle.runs.specs.declared.Demand.{Demand}
 use Rattle.runs.specs.Demand.{plus, Starts, startDemands, anyStarts}
 use Rattle.runs.specs.Start.{Upper}
 use Rattle.sides.specs.Tight.{keyDemand, keyDemands, key-demands-listed}
 use Rattle.last_resets.specs.Distance.{lastOf}
-use Rattle.sweeps.specs.Order.{cell, sideOf, side-none, side-more, forthAt, forthOf, forth-none, forth-more, backOf, partnersFrom, sweepOf}
+use Rattle.sweeps.specs.Order.{cell, sideOf, side-none, side-more, forthAt, forthOf, forth-more, backOf, partnersFrom, sweepOf}
 use Rattle.sweeps.specs.Ends.{last-in, back-ends, partners-ends, start-listed}
 use Rattle.paths.specs.Constraint.{Constraint}
-use Rattle.checks.specs.InParts.{inParts, allInParts}
+use Rattle.checks.specs.InParts.{edge, edges}
 use Rattle.readout.specs.LeastStart.{lag, startFrom, leastStart, start-append, start-none}
 
-module _ (P K : ℕ) (x : ℕ → ℕ) (j : ℕ) where
+module _ (K : ℕ) (x : ℕ → ℕ) (j : ℕ) where
   -- the start of clock j, raised from r by what demands ask
   abbrev pub raisedBy : List Demand → ℕ → ℕ
-  raisedBy ds r = startFrom x (K + j) (allInParts P ds) r
+  raisedBy ds r = startFrom x (K + j) (edges ds) r
 
   pub raised-append : (cs ds : List Demand) (r : ℕ) → raisedBy (cs ++ ds) r ≡ raisedBy ds (raisedBy cs r)
   raised-append cs ds r =
-      ap (λ l. startFrom x (K + j) l r) (map-append (inParts P) cs ds) ∙ start-append x (K + j) (allInParts P cs) (allInParts P ds) r
+      ap (λ l. startFrom x (K + j) l r) (map-append edge cs ds) ∙ start-append x (K + j) (edges cs) (edges ds) r
 
   -- demands to other moments ask nothing of it
   pub raised-other : (ds : List Demand) (r : ℕ) → ((d : Demand) → List·Memᴰ d ds → d .to ≢ K + j) → raisedBy ds r ≡ r
-  raised-other ds r h = start-none x (K + j) (allInParts P ds) r each
+  raised-other ds r h = start-none x (K + j) (edges ds) r each
     where
-      each : (c : Constraint) → List·Memᴰ c (allInParts P ds) → c .to ≡ K + j → lag x c ≡ 0
-      each c m e = go (Memᴰ·of-map (inParts P) ds m)
+      each : (c : Constraint) → List·Memᴰ c (edges ds) → c .to ≡ K + j → lag x c ≡ 0
+      each c m e = go (Memᴰ·of-map edge ds m)
         where
-          go : (d : Demand) × List·Memᴰ d ds × (inParts P d ≡ c) → lag x c ≡ 0
+          go : (d : Demand) × List·Memᴰ d ds × (edge d ≡ c) → lag x c ≡ 0
           go d = absurd (h (d .0) (d .1) (ap (λ b. b .to) (d .2) ∙ e))
 
   pub raised-nil : (r : ℕ) → raisedBy [] r ≡ r
@@ -112,12 +110,12 @@ module _ (P K : ℕ) (x : ℕ → ℕ) (j : ℕ) where
         raised-other (backOf up far L n K K) r (λ d m e. absurd (omega (arith, e, back-ends up far L n K K d m .1)))
 
     starts-none : (a m r : ℕ) → raisedBy (startDemands K anyStarts a m) r ≡ r
-    starts-none a m r = start-none x (K + j) (allInParts P (startDemands K anyStarts a m)) r each
+    starts-none a m r = start-none x (K + j) (edges (startDemands K anyStarts a m)) r each
       where
-        each : (c : Constraint) → List·Memᴰ c (allInParts P (startDemands K anyStarts a m)) → c .to ≡ K + j → lag x c ≡ 0
-        each c k e = go (Memᴰ·of-map (inParts P) (startDemands K anyStarts a m) k)
+        each : (c : Constraint) → List·Memᴰ c (edges (startDemands K anyStarts a m)) → c .to ≡ K + j → lag x c ≡ 0
+        each c k e = go (Memᴰ·of-map edge (startDemands K anyStarts a m) k)
           where
-            go : (d : Demand) × List·Memᴰ d (startDemands K anyStarts a m) × (inParts P d ≡ c) → lag x c ≡ 0
+            go : (d : Demand) × List·Memᴰ d (startDemands K anyStarts a m) × (edge d ≡ c) → lag x c ≡ 0
             go d = let w = start-listed K a m (d .0) (d .1) in rw (← d .2, w .2) (omega arith)
 
     -- The partners end at the start, so they ask nothing of it either.
@@ -128,7 +126,7 @@ module _ (P K : ℕ) (x : ℕ → ℕ) (j : ℕ) where
 
     -- So the smallest start for all demands of a pass is that for those forth.
     pub least-forth : (up : List ℕ) (D : Starts) → Upper n D → 0 < j
-        → leastStart x (allInParts P (sweepOf low up far D L n K)) (K + j) ≡ raisedBy (forthOf low far L n K 0 K) 0
+        → leastStart x (edges (sweepOf low up far D L n K)) (K + j) ≡ raisedBy (forthOf low far L n K 0 K) 0
     least-forth up D u p =
         raised-append (partnersFrom K D 1 n) (forthOf low far L n K 0 K ++ (backOf up far L n K K ++ startDemands K anyStarts 1 n)) 0
         ∙ raised-append (forthOf low far L n K 0 K) (backOf up far L n K K ++ startDemands K anyStarts 1 n) _

@@ -1,14 +1,13 @@
 -- The smallest start of a clock, from step to step.
-use mathlib.Core.Path.{_≡_, refl, sym, ap, subst, _∙_}
-use mathlib.Core.Logic.{_⊎_, inl, inr, ⊎-elim}
-use mathlib.Core.Bool.{Bool, true, false, cond}
-use mathlib.Core.List.{List, [], List·Memᴰ·not-nil}
-use Prim.Native.Nat.{ℕ, suc, _+_, _*_, _-_, _/_, _%_, _≤_, _<_, _^_, max}
+use mathlib.Core.Path.{_≡_, sym, ap, subst, _∙_}
+use mathlib.Core.Logic.{_⊎_, ⊎-elim}
+use mathlib.Core.Bool.{false, cond}
+use mathlib.Core.List.{List, []}
+use Prim.Native.Nat.{ℕ, suc, _+_, _-_, _%_, _≤_, _<_, _^_, max}
 use native.Mathlib.Numerals.{add-one}
-use native.Mathlib.Nat.{mod-lt, mul-le-mul-left, mul-le-mul-right}
+use native.Mathlib.Nat.{mod-lt}
 use native.Mathlib.Omega.{arith}
 use borrow.Author.Tests.{eq-eqb}
-use lib.Dec.{eqb}
 use lib.ListN.{length, getD}
 use Rattle.runs.specs.declared.Demand.{Demand}
 use Rattle.runs.specs.Parts.{bit, bit-small}
@@ -18,57 +17,55 @@ use Rattle.last_resets.specs.Distance.{lastOf}
 use Rattle.sweeps.specs.Order.{cell, forthOf, forth-none}
 use Rattle.sweeps.specs.Ends.{last-in}
 use Rattle.paths.specs.Places.{at, written}
-use Rattle.checks.specs.InParts.{inParts, allInParts}
-use Rattle.readout.specs.LeastStart.{lag, raised, startFrom}
+use Rattle.checks.specs.InParts.{edge}
+use Rattle.readout.specs.LeastStart.{lag, startFrom}
 use Rattle.readout.specs.OneClock.{raisedBy, raised-nil, key-other, forth-step}
 
 -- ---- one key
 -- What is asked of the numbers at step i: a clock, and a time for each moment.
-pub record Raisable (i j K P : ℕ) (time : List ℕ) : Type 0 where
+pub record Raisable (i j K : ℕ) (time : List ℕ) : Type 0 where
   pub some : 0 < j
   pub clock : j ≤ 6
   pub few : K ≤ 1024
   pub step : i < K
-  pub parts : P ≤ 1031
   pub moments : K < length time
   pub now : at time 0 ≤ 2 ^ 62
 
 -- The gain of a lower key is small.
-pub lower-gain : (P key z i : ℕ) (d : Demand) → d ≡ keyDemand false key z i → P ≤ 1031 → d .down * P + bit (d .strict) ≤ 4124001
+pub lower-gain : (key z i : ℕ) (d : Demand) → d ≡ keyDemand false key z i → d .down + bit (d .strict) ≤ 4124001
 unfolding keyDemand
-lower-gain P key z i d e l =
-    omega (arith, mul-le-mul-right P half, mul-le-mul-left 4000 l, bit-small (d .strict))
+lower-gain key z i d e = omega (arith, half, bit-small (d .strict))
   where
-    half : d .down ≤ 4000
+    half : d .down ≤ 4124000
     half = rw e (omega arith)
 
-module _ (P K : ℕ) (x : ℕ → ℕ) (j : ℕ) where
+module _ (K : ℕ) (x : ℕ → ℕ) (j : ℕ) where
   -- no guard
-  pub raise-none : (key z i r : ℕ) → none ≤ key → r ≡ raisedBy P K x j (keyDemands false key z i) r
+  pub raise-none : (key z i r : ℕ) → none ≤ key → r ≡ raisedBy K x j (keyDemands false key z i) r
   raise-none key z i r l =
-      sym (raised-nil P K x j r)
-      ∙ ap (λ ds. raisedBy P K x j ds r) (sym (key-demands-none false key z i l))
+      sym (raised-nil K x j r)
+      ∙ ap (λ ds. raisedBy K x j ds r) (sym (key-demands-none false key z i l))
 
   -- a reset since the start
-  pub raise-reset : (key z i r : ℕ) → 0 < j → z ≤ K → r ≡ raisedBy P K x j (keyDemands false key z i) r
-  raise-reset key z i r p l = sym (key-other P K x j key z i r (λ e. absurd (omega arith)))
+  pub raise-reset : (key z i r : ℕ) → 0 < j → z ≤ K → r ≡ raisedBy K x j (keyDemands false key z i) r
+  raise-reset key z i r p l = sym (key-other K x j key z i r (λ e. absurd (omega arith)))
 
   -- a guard on the start
   at-start : (key z i r b o s : ℕ) (d : Demand) → key < none → z ≡ K + j → d ≡ keyDemand false key z i → b ≡ bit (d .strict)
-      → o ≡ x 0 + (d .down * P + b) - x i → s ≡ max r o → s ≡ raisedBy P K x j (keyDemands false key z i) r
+      → o ≡ x 0 + (d .down + b) - x i → s ≡ max r o → s ≡ raisedBy K x j (keyDemands false key z i) r
   unfolding keyDemand startFrom
   at-start key z i r b o s d l e f g h k =
       k
       ∙ ap (max r) (h ∙ rw (g, f) (omega arith))
-      ∙ sym (ap (λ t. cond t (max r (lag x (inParts P (keyDemand false key z i)))) r) (eq-eqb z (K + j) e))
-      ∙ ap (λ ds. raisedBy P K x j ds r) (sym (key-demands-some false key z i l))
+      ∙ sym (ap (λ t. cond t (max r (lag x (edge (keyDemand false key z i)))) r) (eq-eqb z (K + j) e))
+      ∙ ap (λ ds. raisedBy K x j ds r) (sym (key-demands-some false key z i l))
 
   -- the same, where the last reset z is before it
   pub raise-some : (key f i r b o s z : ℕ) (d : Demand) → key < none → z ≡ lastOf f K i j → K < z → i ≤ K
-      → d ≡ keyDemand false key z (i + 1) → b ≡ bit (d .strict) → o ≡ x 0 + (d .down * P + b) - x (i + 1) → s ≡ max r o
-      → s ≡ raisedBy P K x j (keyDemands false key (lastOf f K i j) (i + 1)) r
+      → d ≡ keyDemand false key z (i + 1) → b ≡ bit (d .strict) → o ≡ x 0 + (d .down + b) - x (i + 1) → s ≡ max r o
+      → s ≡ raisedBy K x j (keyDemands false key (lastOf f K i j) (i + 1)) r
   raise-some key f i r b o s z d l e m few g h k q =
-      subst (λ y. s ≡ raisedBy P K x j (keyDemands false key y (i + 1)) r) e
+      subst (λ y. s ≡ raisedBy K x j (keyDemands false key y (i + 1)) r) e
       (at-start key z (i + 1) r b o s d l start g h k q)
     where
       start : z ≡ K + j
@@ -76,7 +73,7 @@ module _ (P K : ℕ) (x : ℕ → ℕ) (j : ℕ) where
 
 -- ---- all steps
 -- What is asked for going over all steps.
-pub record Startable (low far : List ℕ) (L n K P j : ℕ) (time : List ℕ) : Type 0 where
+pub record Startable (low far : List ℕ) (L n K j : ℕ) (time : List ℕ) : Type 0 where
   pub keyed : length low ≡ 112
   pub reached : length far ≡ 112
   pub steps-some : 0 < L
@@ -85,57 +82,55 @@ pub record Startable (low far : List ℕ) (L n K P j : ℕ) (time : List ℕ) : 
   pub few : K ≤ 1024
   pub some : 0 < j
   pub clock : j ≤ n
-  pub parts : P ≤ 1031
   pub moments : K < length time
   pub now : at time 0 ≤ 2 ^ 62
 
-module _ (low far : List ℕ) (L n K P j : ℕ) (time : List ℕ) (z : Startable low far L n K P j time) where
+module _ (low far : List ℕ) (L n K j : ℕ) (time : List ℕ) (z : Startable low far L n K j time) where
   abbrev raisedTo : ℕ → ℕ → ℕ
-  raisedTo i r = raisedBy P K (at time) j (forthOf low far L n K i (K - i)) r
+  raisedTo i r = raisedBy K (at time) j (forthOf low far L n K i (K - i)) r
 
   abbrev whole : ℕ
-  whole = raisedBy P K (at time) j (forthOf low far L n K 0 K) 0
+  whole = raisedBy K (at time) j (forthOf low far L n K 0 K) 0
 
   pub starting-first : raisedTo 0 0 ≡ whole
-  starting-first = let e : K - 0 ≡ K = omega arith in ap (λ m. raisedBy P K (at time) j (forthOf low far L n K 0 m) 0) e
+  starting-first = let e : K - 0 ≡ K = omega arith in ap (λ m. raisedBy K (at time) j (forthOf low far L n K 0 m) 0) e
 
   pub starting-step : (i s : ℕ) → s ≡ i % L → s < 16
   starting-step i s e = omega (arith, mod-lt i (z .steps-some), z .steps)
 
   module _ (i s r : ℕ) (e : s ≡ i % L) (l : i < K) where
-    pub starting-raisable : Raisable i j K P time
+    pub starting-raisable : Raisable i j K time
     starting-raisable =
         record {
           some = z .some;
           clock = omega (arith, z .clock, z .clocks);
           few = z .few;
           step = l;
-          parts = z .parts;
           moments = z .moments;
           now = z .now;
         }
 
     pub starting-next : (r′ : ℕ)
-        → r′ ≡ raisedBy P K (at time) j (keyDemands false (getD low (cell s j) 0) (lastOf (getD far (cell s j) 0) K i j) (i + 1)) r
+        → r′ ≡ raisedBy K (at time) j (keyDemands false (getD low (cell s j) 0) (lastOf (getD far (cell s j) 0) K i j) (i + 1)) r
         → raisedTo i r ≡ whole → raisedTo (i + 1) r′ ≡ whole
     starting-next r′ f h =
         let g : K - i ≡ suc (K - suc i) = omega arith in
         ap (raisedTo (i + 1)) f
         ∙ rw (add-one i)
-        (sym (ap (λ m. raisedBy P K (at time) j (forthOf low far L n K i m) r) g
-        ∙ forth-step P K (at time) j low far L n i (K - suc i) s r l (z .some) (z .clock) e))
+        (sym (ap (λ m. raisedBy K (at time) j (forthOf low far L n K i m) r) g
+        ∙ forth-step K (at time) j low far L n i (K - suc i) s r l (z .some) (z .clock) e))
         ∙ h
 
   pub starting-last : (i r : ℕ) → K ≤ i → raisedTo i r ≡ whole → r ≡ whole
   starting-last i r l h =
       let g : K - i ≡ 0 = omega arith in
       let e : forthOf low far L n K i (K - i) ≡ [] = rw g (forth-none low far L n K i) in
-      sym (raised-nil P K (at time) j r) ∙ ap (λ ds. raisedBy P K (at time) j ds r) (sym e) ∙ h
+      sym (raised-nil K (at time) j r) ∙ ap (λ ds. raisedBy K (at time) j ds r) (sym e) ∙ h
 
 -- ---- all clocks
 -- the smallest start of the clock at place j
 abbrev pub startAt : List ℕ → List ℕ → ℕ → ℕ → ℕ → List ℕ → ℕ → ℕ
-startAt low far L n K time j = raisedBy (K + n + 1) K (at time) (j + 1) (forthOf low far L n K 0 K) 0
+startAt low far L n K time j = raisedBy K (at time) (j + 1) (forthOf low far L n K 0 K) 0
 
 -- What is asked for all clocks.
 pub record Rowed (low far : List ℕ) (L n K : ℕ) (time : List ℕ) : Type 0 where
@@ -149,7 +144,7 @@ pub record Rowed (low far : List ℕ) (L n K : ℕ) (time : List ℕ) : Type 0 w
   pub now : at time 0 ≤ 2 ^ 62
 
 pub rowed-startable : (low far : List ℕ) (L n K : ℕ) (time : List ℕ) → Rowed low far L n K time → (j : ℕ) → j < n
-    → Startable low far L n K (K + n + 1) (j + 1) time
+    → Startable low far L n K (j + 1) time
 rowed-startable low far L n K time z j l =
     record {
       keyed = z .keyed;
@@ -160,7 +155,6 @@ rowed-startable low far L n K time z j l =
       few = z .few;
       some = omega arith;
       clock = omega arith;
-      parts = omega (arith, z .few, z .clocks);
       moments = z .moments;
       now = z .now;
     }

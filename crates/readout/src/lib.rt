@@ -36,12 +36,11 @@ fn raise(
     i: usize,
     j: usize,
     total: usize,
-    parts: u64,
     time: &[u64],
     start: u64,
 ) -> u64
-    requires { ⌜ Raisable i j total parts (now time) ⌝ }
-    ensures { λ r. ⌜ r ≡ raisedBy parts total (at (now (time .entry))) j
+    requires { ⌜ Raisable i j total (now time) ⌝ }
+    ensures { λ r. ⌜ r ≡ raisedBy total (at (now (time .entry))) j
         (keyDemands false key (lastOf distance total i j) (i + 1)) start ⌝ }
 {
     if NONE <= key {
@@ -52,7 +51,7 @@ fn raise(
         return start;
     }
     let d = lower_demand(key, z, i + 1);
-    let gain = d.down * parts + bit_of(d.strict);
+    let gain = d.down + bit_of(d.strict);
     larger(start, over(time[0] + gain, time[i + 1]))
 }
 
@@ -63,12 +62,11 @@ fn start_of(
     steps: usize,
     clocks: usize,
     total: usize,
-    parts: u64,
     j: usize,
     time: &[u64],
 ) -> u64
-    requires { ⌜ Startable (now low) (now far) steps clocks total parts j (now time) ⌝ }
-    ensures { λ r. ⌜ r ≡ raisedBy parts total (at (now (time .entry))) j
+    requires { ⌜ Startable (now low) (now far) steps clocks total j (now time) ⌝ }
+    ensures { λ r. ⌜ r ≡ raisedBy total (at (now (time .entry))) j
         (forthOf (now (low .entry)) (now (far .entry)) steps clocks total 0 total) 0 ⌝ }
 {
     let mut start: u64 = 0;
@@ -76,7 +74,7 @@ fn start_of(
     let mut s: usize = 0;
     while i < total {
         let at = 7 * s + j;
-        start = raise(low[at], far[at], i, j, total, parts, time, start);
+        start = raise(low[at], far[at], i, j, total, time, start);
         s = following(s, steps);
         i += 1;
     }
@@ -97,10 +95,9 @@ pub fn write_starts(
     ensures { λ _. ⌜ now (starts .exit)
         ≡ written (startAt (now (low .entry)) (now (far .entry)) steps clocks total (now (time .entry))) clocks (now (starts .entry)) ⌝ }
 {
-    let parts = (total + clocks + 1) as u64;
     let mut j: usize = 0;
     while j < clocks {
-        starts[j] = start_of(low, far, steps, clocks, total, parts, j + 1, time);
+        starts[j] = start_of(low, far, steps, clocks, total, j + 1, time);
         j += 1;
     }
 }

@@ -1,13 +1,12 @@
 -- Pass after pass, until one has raised nothing on the way back or there is a cycle of parents.
 use mathlib.Core.Path.{_≡_, sym, ap, subst, _∙_}
 use mathlib.Core.Bool.{Bool, true, false}
-use mathlib.Core.List.{List, List·Memᴰ, Memᴰ·of-map}
+use mathlib.Core.List.{List}
 use Prim.Native.Nat.{ℕ, _+_, _*_, _≤_, _<_, _^_}
 use native.Mathlib.Omega.{arith}
 use native.Mathlib.Nat.{mul-le-mul-right, mul-le-mul-left}
 use native.Mathlib.Decide.{decLe, decLt}
 use lib.ListN.{length}
-use Rattle.runs.specs.declared.Demand.{Demand}
 use Rattle.sweeps.specs.Number.{sweep-few}
 use Rattle.paths.specs.Places.{at, length-written}
 use Rattle.paths.specs.Constraint.{Constraint, Fits}
@@ -17,10 +16,9 @@ use Rattle.paths.specs.Pass.{Start}
 use Rattle.paths.specs.Cycle.{OnCycle}
 use Rattle.paths.specs.Outcome.{outcome-links, outcome-must}
 use Rattle.paths.specs.Search.{Searchable, Search, found-some}
-use Rattle.checks.specs.InParts.{inParts, allInParts}
-use Rattle.checks.specs.Checks.{unit, length-parts}
+use Rattle.checks.specs.Checks.{unit, length-edges, slight-fits, slight-gains}
 use Rattle.relaxing.specs.Rows.{Rows, sweep, moments, constraintsOf, Sound, sound-moments}
-use Rattle.relaxing.specs.Pass.{Passable, Swept, slight-fits}
+use Rattle.relaxing.specs.Pass.{Passable, Swept}
 use Rattle.relaxing.specs.Passes.{Begins, Ended}
 
 -- What the passes ask: the start values, and a mark for each moment.
@@ -52,17 +50,14 @@ module _ (R : Rows) (s₀ : State) (z : Sound R) (b : Begins (moments R) (R .tot
 
   gains : Gains unit cs
   unfolding constraintsOf
-  gains c m = go (Memᴰ·of-map (inParts N) (sweep R) m)
-    where
-      go : (d : Demand) × List·Memᴰ d (sweep R) × (inParts N d ≡ c) → c .gain ≤ unit
-      go d = rw (← d .2) (z .slight (d .0) (d .1) .gain)
+  gains = slight-gains N (sweep R) (z .slight)
 
   few-checks : length cs ≤ 13324
   unfolding constraintsOf
   few-checks =
       omega (
         arith,
-        length-parts N (sweep R),
+        length-edges (sweep R),
         sweep-few (R .low) (R .up) (R .far) (R .start) (R .steps) (R .clocks) (R .total) (z .clocks) (z .few),
       )
 

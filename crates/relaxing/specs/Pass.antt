@@ -1,9 +1,9 @@
 -- A pass: the partners, forth over all steps, back over all steps, then the starts. Where the way back raised nothing, everything holds.
-use mathlib.Core.Path.{_≡_, refl, sym, ap, subst, _∙_}
-use mathlib.Core.Logic.{_⊎_, inl, inr, ⊎-elim}
+use mathlib.Core.Path.{_≡_, sym, ap, subst, _∙_}
+use mathlib.Core.Logic.{_⊎_, ⊎-elim}
 use mathlib.Core.Bool.{Bool, true, false, _||_, or-true}
-use mathlib.Core.List.{List, [], _∷_, _++_, List·Memᴰ, Memᴰ·of-map, List·Memᴰ·append-cases, map-append, append-assoc}
-use Prim.Native.Nat.{ℕ, _+_, _*_, _≤_, _<_, _^_}
+use mathlib.Core.List.{List, _++_, List·Memᴰ·append-cases, map-append, append-assoc}
+use Prim.Native.Nat.{ℕ, _+_, _≤_, _^_}
 use native.Mathlib.Omega.{arith}
 use lib.ListN.{length, length-append}
 use Rattle.runs.specs.declared.Demand.{Demand}
@@ -13,13 +13,13 @@ use Rattle.runs.specs.Tools.{Every, every-append}
 use Rattle.sweeps.specs.Order.{forthOf, backOf, partnersFrom}
 use Rattle.sweeps.specs.Number.{sweep-few}
 use Rattle.paths.specs.Places.{at}
-use Rattle.paths.specs.Constraint.{Constraint, All, Fits}
+use Rattle.paths.specs.Constraint.{Constraint, All}
 use Rattle.paths.specs.State.{State, passOf, hitsOf, pass-append, hits-append}
-use Rattle.paths.specs.Bounds.{SameSize, Room, Under}
+use Rattle.paths.specs.Bounds.{Room, Under}
 use Rattle.paths.specs.Pass.{quiet}
 use Rattle.paths.specs.Onward.{onward-settles}
-use Rattle.checks.specs.InParts.{inParts, allInParts}
-use Rattle.checks.specs.Checks.{Slight, unit, Checkable, Checked, length-parts, checked-append, checkable-left, checkable-right}
+use Rattle.checks.specs.InParts.{edge, edges}
+use Rattle.checks.specs.Checks.{Slight, Checkable, Checked, length-edges, slight-fits, checked-append, checkable-left, checkable-right}
 use Rattle.relaxing.specs.Rows.{Rows, sweep, moments, constraintsOf, Sound}
 use Rattle.relaxing.specs.Onward.{way-onward}
 
@@ -37,20 +37,6 @@ pub record Swept (R : Rows) (q : ℕ) (s s′ : State) (h : Bool) (r : ℕ) : Ty
   pub stamp : r ≡ q + length (constraintsOf R)
   pub loud : h ≡ true → hitsOf (constraintsOf R) q s ≡ true
   pub quiet : h ≡ false → All (constraintsOf R) (at (s′ .time))
-
--- demands with small ends fit
-pub slight-fits : (P : ℕ) (ds : List Demand) → Every (Slight P) ds → Fits P (allInParts P ds)
-slight-fits P ds h =
-    record {
-      from = λ c m. from c (Memᴰ·of-map (inParts P) ds m);
-      to = λ c m. to c (Memᴰ·of-map (inParts P) ds m);
-    }
-  where
-    from : (c : Constraint) → (d : Demand) × List·Memᴰ d ds × (inParts P d ≡ c) → c .from < P
-    from c d = rw (← d .2) (h (d .0) (d .1) .from)
-
-    to : (c : Constraint) → (d : Demand) × List·Memᴰ d ds × (inParts P d ≡ c) → c .to < P
-    to c d = rw (← d .2) (h (d .0) (d .1) .to)
 
 module _ (R : Rows) (q : ℕ) (s : State) (p : Passable R s q) where
   abbrev P : ℕ
@@ -71,9 +57,10 @@ module _ (R : Rows) (q : ℕ) (s : State) (p : Passable R s q) where
   few : length (sweep R) ≤ 13324
   few = sweep-few (R .low) (R .up) (R .far) (R .start) (R .steps) (R .clocks) (R .total) (p .sound .clocks) (p .sound .few)
 
-  able : Checkable P (partners ++ (forth ++ (back ++ starts))) s q
+  able : Checkable (partners ++ (forth ++ (back ++ starts))) s q
   able =
       record {
+        moments = P;
         slight = p .sound .slight;
         room = p .room;
         top = 2 ^ 62;
@@ -82,50 +69,50 @@ module _ (R : Rows) (q : ℕ) (s : State) (p : Passable R s q) where
         stamp = omega (arith, p .stamp, few);
       }
 
-  pub partners-able : Checkable P partners s q
-  partners-able = checkable-left P partners (forth ++ (back ++ starts)) s q able
+  pub partners-able : Checkable partners s q
+  partners-able = checkable-left partners (forth ++ (back ++ starts)) s q able
 
-  module _ (s₀ : State) (h₀ : Bool) (q₀ : ℕ) (c₀ : Checked P partners false q s s₀ h₀ q₀) where
-    later-able : Checkable P (forth ++ (back ++ starts)) s₀ q₀
-    later-able = checkable-right P partners (forth ++ (back ++ starts)) false q s s₀ h₀ q₀ c₀ able
+  module _ (s₀ : State) (h₀ : Bool) (q₀ : ℕ) (c₀ : Checked partners false q s s₀ h₀ q₀) where
+    later-able : Checkable (forth ++ (back ++ starts)) s₀ q₀
+    later-able = checkable-right partners (forth ++ (back ++ starts)) false q s s₀ h₀ q₀ c₀ able
 
-    pub forth-able : Checkable P forth s₀ q₀
-    forth-able = checkable-left P forth (back ++ starts) s₀ q₀ later-able
+    pub forth-able : Checkable forth s₀ q₀
+    forth-able = checkable-left forth (back ++ starts) s₀ q₀ later-able
 
-    module _ (s₁ : State) (h₁ : Bool) (q₁ : ℕ) (c₁ : Checked P forth h₀ q₀ s₀ s₁ h₁ q₁) where
-      return-able : Checkable P (back ++ starts) s₁ q₁
-      return-able = checkable-right P forth (back ++ starts) h₀ q₀ s₀ s₁ h₁ q₁ c₁ later-able
+    module _ (s₁ : State) (h₁ : Bool) (q₁ : ℕ) (c₁ : Checked forth h₀ q₀ s₀ s₁ h₁ q₁) where
+      return-able : Checkable (back ++ starts) s₁ q₁
+      return-able = checkable-right forth (back ++ starts) h₀ q₀ s₀ s₁ h₁ q₁ c₁ later-able
 
-      pub back-able : Checkable P back s₁ q₁
-      back-able = checkable-left P back starts s₁ q₁ return-able
+      pub back-able : Checkable back s₁ q₁
+      back-able = checkable-left back starts s₁ q₁ return-able
 
-      module _ (s₂ : State) (h₂ : Bool) (q₂ : ℕ) (c₂ : Checked P back false q₁ s₁ s₂ h₂ q₂) where
-        pub starts-able : Checkable P starts s₂ q₂
-        starts-able = checkable-right P back starts false q₁ s₁ s₂ h₂ q₂ c₂ return-able
+      module _ (s₂ : State) (h₂ : Bool) (q₂ : ℕ) (c₂ : Checked back false q₁ s₁ s₂ h₂ q₂) where
+        pub starts-able : Checkable starts s₂ q₂
+        starts-able = checkable-right back starts false q₁ s₁ s₂ h₂ q₂ c₂ return-able
 
-        module _ (s₃ : State) (h₃ : Bool) (q₃ : ℕ) (c₃ : Checked P starts h₂ q₂ s₂ s₃ h₃ q₃) where
+        module _ (s₃ : State) (h₃ : Bool) (q₃ : ℕ) (c₃ : Checked starts h₂ q₂ s₂ s₃ h₃ q₃) where
           F : List Constraint
-          F = allInParts P (partners ++ forth)
+          F = edges (partners ++ forth)
 
           B : List Constraint
-          B = allInParts P (back ++ starts)
+          B = edges (back ++ starts)
 
           -- the partners and the way forth, then the others
-          onward : Checked P (partners ++ forth) false q s s₁ h₁ q₁
-          onward = checked-append P partners forth false q s s₀ h₀ q₀ c₀ s₁ h₁ q₁ c₁
+          onward : Checked (partners ++ forth) false q s s₁ h₁ q₁
+          onward = checked-append partners forth false q s s₀ h₀ q₀ c₀ s₁ h₁ q₁ c₁
 
-          return : Checked P (back ++ starts) false q₁ s₁ s₃ h₃ q₃
-          return = checked-append P back starts false q₁ s₁ s₂ h₂ q₂ c₂ s₃ h₃ q₃ c₃
+          return : Checked (back ++ starts) false q₁ s₁ s₃ h₃ q₃
+          return = checked-append back starts false q₁ s₁ s₂ h₂ q₂ c₂ s₃ h₃ q₃ c₃
 
-          parts : allInParts P (sweep R) ≡ F ++ B
+          parts : edges (sweep R) ≡ F ++ B
           unfolding F B
           parts =
-              ap (allInParts P) (sym (append-assoc partners forth (back ++ starts)))
-              ∙ map-append (inParts P) (partners ++ forth) (back ++ starts)
+              ap edges (sym (append-assoc partners forth (back ++ starts)))
+              ∙ map-append edge (partners ++ forth) (back ++ starts)
 
           next : q₁ ≡ q + length F
           unfolding F
-          next = omega (arith, onward .stamp, length-parts P (partners ++ forth))
+          next = omega (arith, onward .stamp, length-edges (partners ++ forth))
 
           gone : s₁ ≡ passOf F q s
           unfolding F
@@ -166,7 +153,7 @@ module _ (R : Rows) (q : ℕ) (s : State) (p : Passable R s q) where
               rw same
               (⊎-elim
               (onward-settles P F q s (slight-fits P (partners ++ forth) slight) (p .room)
-              (way-onward P (R .low) (R .far) (R .steps) (R .clocks) (R .total) (startsOf (R .start)) (start-upper (R .start) (R .clocks)))
+              (way-onward (R .low) (R .far) (R .steps) (R .clocks) (R .total) (startsOf (R .start)) (start-upper (R .start) (R .clocks)))
               c)
               (k .holds c)
               (List·Memᴰ·append-cases F m))
@@ -181,7 +168,7 @@ module _ (R : Rows) (q : ℕ) (s : State) (p : Passable R s q) where
                       arith,
                       return .stamp,
                       onward .stamp,
-                      length-parts P (sweep R),
+                      length-edges (sweep R),
                       length-append partners (forth ++ (back ++ starts)),
                       length-append forth (back ++ starts),
                       length-append partners forth,

@@ -10,12 +10,12 @@ use Rattle.runs.specs.Demand.{startsOf}
 use Rattle.runs.specs.Tools.{Every}
 use Rattle.sweeps.specs.Order.{sweepOf}
 use Rattle.paths.specs.Constraint.{Constraint}
-use Rattle.checks.specs.InParts.{allInParts}
+use Rattle.checks.specs.InParts.{edges}
 use Rattle.checks.specs.Checks.{Slight}
 use Rattle.ways.specs.Forth.{Going}
 
--- With a place 7 * s + j for step s of a round and clock j: the keys of the tightest guards from below and from above, and the
--- distances to the last resets. Rounds have so many steps and clocks, and all rounds together `total` steps; they start as the variant
+-- With a place 7 * s + j for step s of a round and clock j: the keys of the tightest guards from below and from above, their
+-- constants in parts, and the distances to the last resets. Rounds have so many steps and clocks, and all rounds together `total` steps; they start as the variant
 -- says.
 pub record Rows : Type 0 where
   pub low : List ℕ
@@ -39,7 +39,7 @@ moments R = R .total + R .clocks + 1
 
 -- the demands as constraints
 unfoldable pub constraintsOf : Rows → List Constraint
-constraintsOf R = allInParts (moments R) (sweep R)
+constraintsOf R = edges (sweep R)
 
 -- What is asked of all: whole rounds, and demands between the moments with small bounds.
 pub record Sound (R : Rows) : Type 0 where

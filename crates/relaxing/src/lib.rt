@@ -32,41 +32,18 @@ fn pass(
         (state (now (time .entry)) (now (parent .entry)) (now (stamp .entry)))
         (state (now (time .exit)) (now (parent .exit)) (now (stamp .exit))) (r .raised) (r .stamp) ⌝ }
 {
-    let parts = (total + clocks + 1) as u64;
     let begun = Sweep {
         raised: false,
         stamp: q,
     };
-    let started = check_partners(start, total, clocks, parts, time, parent, stamp, begun);
-    let gone = forth(
-        low,
-        far,
-        steps,
-        clocks,
-        total,
-        parts,
-        time,
-        parent,
-        stamp,
-        started,
-    );
+    let started = check_partners(start, total, clocks, time, parent, stamp, begun);
+    let gone = forth(low, far, steps, clocks, total, time, parent, stamp, started);
     let turned = Sweep {
         raised: false,
         stamp: gone.stamp,
     };
-    let come = back(
-        up,
-        far,
-        steps,
-        clocks,
-        total,
-        parts,
-        time,
-        parent,
-        stamp,
-        turned,
-    );
-    check_starts(total, clocks, parts, time, parent, stamp, come)
+    let come = back(up, far, steps, clocks, total, time, parent, stamp, turned);
+    check_starts(total, clocks, time, parent, stamp, come)
 }
 
 // Passes until one raises nothing on the way back, or there is a cycle of parents: a vertex on it, or else the number of moments. N

@@ -3,3 +3,4 @@ pub mod Covers
 pub mod Tight
 pub mod Keys
 pub mod Filled
+pub mod Scaled

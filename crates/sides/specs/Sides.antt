@@ -43,11 +43,15 @@ sideDemand true r c z i = plus z i c (strictly r)
 sideDemand false r c z i = minus i z c (strictly r)
 
 -- ---- keys
--- the key of a side that is not there
-abbrev pub none : ℕ
-none = 9000
+-- the largest constant: 4000, in 1031 parts
+abbrev pub most : ℕ
+most = 4124000
 
--- The smaller the tighter, for constants up to 4000.
+-- the key of a side that is not there: past all others
+abbrev pub none : ℕ
+none = 8248002
+
+-- The smaller the tighter, for constants up to `most`.
 abbrev pub sideKey : Side → Relation → ℕ → ℕ
 sideKey true Under c = 2 * c
 sideKey true AtMost c = 2 * c + 1
@@ -56,9 +60,9 @@ sideKey true AtLeast c = none
 sideKey true Over c = none
 sideKey false Under c = none
 sideKey false AtMost c = none
-sideKey false Exactly c = 8001 - 2 * c
-sideKey false AtLeast c = 8001 - 2 * c
-sideKey false Over c = 8000 - 2 * c
+sideKey false Exactly c = 8248001 - 2 * c
+sideKey false AtLeast c = 8248001 - 2 * c
+sideKey false Over c = 8248000 - 2 * c
 
 -- the key of a side and a relation that are known
 pub key-known : (s q : Side) (r p : Relation) (c a : ℕ) → a ≡ sideKey s r c → q ≡ s → p ≡ r → a ≡ sideKey q p c
@@ -77,7 +81,7 @@ key-has false Exactly c h = tt
 key-has false AtLeast c h = tt
 key-has false Over c h = tt
 
-pub has-key : (s : Side) (r : Relation) (c : ℕ) → c ≤ 4000 → Has s r → sideKey s r c < none
+pub has-key : (s : Side) (r : Relation) (c : ℕ) → c ≤ most → Has s r → sideKey s r c < none
 has-key true Under c l h = omega arith
 has-key true AtMost c l h = omega arith
 has-key true Exactly c l h = omega arith
@@ -122,14 +126,14 @@ upper-key Exactly c h = refl
 upper-key AtLeast c h = absurd h
 upper-key Over c h = absurd h
 
-pub lower-key : (r : Relation) (c : ℕ) → c ≤ 4000 → Has false r → sideKey false r c + 2 * c ≡ 8000 + slack (strictly r)
+pub lower-key : (r : Relation) (c : ℕ) → c ≤ most → Has false r → sideKey false r c + 2 * c ≡ 8248000 + slack (strictly r)
 lower-key Under c l h = absurd h
 lower-key AtMost c l h = absurd h
 lower-key Exactly c l h = omega arith
 lower-key AtLeast c l h = omega arith
 lower-key Over c l h = omega arith
 
-pub key-tight : (s : Side) (r q : Relation) (c e z i : ℕ) → c ≤ 4000 → e ≤ 4000 → Has s r → Has s q
+pub key-tight : (s : Side) (r q : Relation) (c e z i : ℕ) → c ≤ most → e ≤ most → Has s r → Has s q
     → sideKey s r c ≤ sideKey s q e → AsTight (sideDemand s r c z i) (sideDemand s q e z i)
 key-tight true r q c e z i l m h k le =
     upper-tight (strictly r) (strictly q) c e z i (omega (arith, upper-key r c h, upper-key q e k))

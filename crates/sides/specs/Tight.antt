@@ -16,7 +16,7 @@ use Rattle.table.specs.declared.Relation.{Relation}
 use Rattle.runs.specs.declared.Demand.{Demand}
 use Rattle.runs.specs.Demand.{plus, minus, guardDemands, guardsDemands}
 use Rattle.runs.specs.Tools.{Every}
-use Rattle.sides.specs.Sides.{Side, Has, strictly, sideDemand, none, sideKey, key-has, has-key, key-tight, upper-key, lower-key}
+use Rattle.sides.specs.Sides.{Side, Has, strictly, sideDemand, most, none, sideKey, key-has, has-key, key-tight, upper-key, lower-key}
 use Rattle.sides.specs.Sides.{slack, side-listed, Listed, listed-side}
 use Rattle.sides.specs.Covers.{Stronger, Covers}
 
@@ -32,7 +32,7 @@ least s clock (g ∷ gs) = min (keyOn s clock g) (least s clock gs)
 -- the demand of a key on a side, at moment i, on a clock last reset at moment z
 unfoldable pub keyDemand : Side → ℕ → ℕ → ℕ → Demand
 keyDemand true key z i = plus z i (key / 2) (eqb (key % 2) 0)
-keyDemand false key z i = minus i z ((8001 - key) / 2) (eqb (key % 2) 0)
+keyDemand false key z i = minus i z ((8248001 - key) / 2) (eqb (key % 2) 0)
 
 -- and none where there is no such side
 unfoldable pub keyDemands : Side → ℕ → ℕ → ℕ → List Demand
@@ -101,11 +101,11 @@ upper-halves : (b : Bool) (c key : ℕ) → key ≡ 2 * c + slack b → (key / 2
 upper-halves true c key e = (omega arith, eq-eqb (key % 2) 0 (omega arith))
 upper-halves false c key e = (omega arith, ne-eqb (key % 2) 0 (omega arith))
 
-lower-halves : (b : Bool) (c key : ℕ) → key + 2 * c ≡ 8000 + slack b → ((8001 - key) / 2 ≡ c) × (eqb (key % 2) 0 ≡ b)
+lower-halves : (b : Bool) (c key : ℕ) → key + 2 * c ≡ 8248000 + slack b → ((8248001 - key) / 2 ≡ c) × (eqb (key % 2) 0 ≡ b)
 lower-halves true c key e = (omega arith, eq-eqb (key % 2) 0 (omega arith))
 lower-halves false c key e = (omega arith, ne-eqb (key % 2) 0 (omega arith))
 
-pub key-demand : (s : Side) (r : Relation) (c z i : ℕ) → c ≤ 4000 → Has s r
+pub key-demand : (s : Side) (r : Relation) (c z i : ℕ) → c ≤ most → Has s r
     → keyDemand s (sideKey s r c) z i ≡ sideDemand s r c z i
 unfolding keyDemand
 key-demand true r c z i l h =
@@ -114,11 +114,11 @@ key-demand false r c z i l h =
     let e = lower-halves (strictly r) c (sideKey false r c) (lower-key r c l h) in rw (e .0, e .1)
 
 -- ---- the smallest key
-key-own : (s : Side) (clock : ℕ) (g : Guard) → g .clock ≡ clock → keyOn s clock g ≡ sideKey s (g .relation) (g .constant)
+pub key-own : (s : Side) (clock : ℕ) (g : Guard) → g .clock ≡ clock → keyOn s clock g ≡ sideKey s (g .relation) (g .constant)
 unfolding keyOn
 key-own s clock g e = rw (eq-eqb (g .clock) clock e)
 
-key-other : (s : Side) (clock : ℕ) (g : Guard) → ¬ (g .clock ≡ clock) → keyOn s clock g ≡ none
+pub key-other : (s : Side) (clock : ℕ) (g : Guard) → ¬ (g .clock ≡ clock) → keyOn s clock g ≡ none
 unfolding keyOn
 key-other s clock g e = rw (ne-eqb (g .clock) clock e)
 
@@ -295,7 +295,7 @@ guards-listed (h ∷ gs) i z d m =
     (λ l. let k = guards-listed gs i z d l in (k .0, List·Memᴰ·tail (k .1), k .2))
     (List·Memᴰ·append-cases (of i z h) m)
 
-stronger : (s : Side) (r q : Relation) (c e z i : ℕ) → c ≤ 4000 → e ≤ 4000 → Has s r → Has s q
+stronger : (s : Side) (r q : Relation) (c e z i : ℕ) → c ≤ most → e ≤ most → Has s r → Has s q
     → sideKey s r c ≤ sideKey s q e → Stronger (sideDemand s r c z i) (sideDemand s q e z i)
 stronger true r q c e z i l m h k le = record { from = refl; to = refl; tight = key-tight true r q c e z i l m h k le }
 stronger false r q c e z i l m h k le = record { from = refl; to = refl; tight = key-tight false r q c e z i l m h k le }
@@ -308,7 +308,7 @@ module _ (n : ℕ) (gs : List Guard) (f : Every FairGuard gs)
       → keyDemand s (least s clock gs) (z clock) i ≡ sideDemand s (b .guard .relation) (b .guard .constant) (z clock) i
   best-demand s clock b =
       ap (λ k. keyDemand s k (z clock) i) (sym (b .keyed))
-      ∙ key-demand s (b .guard .relation) (b .guard .constant) (z clock) i (f (b .guard) (b .member) .small) (b .has)
+      ∙ key-demand s (b .guard .relation) (b .guard .constant) (z clock) i (omega (arith, f (b .guard) (b .member) .small)) (b .has)
 
   among-side : (s : Side) (e : Demand) → List·Memᴰ e (tight s gs i z 1 n) → List·Memᴰ e (guardsDemands gs i z)
   among-side s e m = listed-guards gs i z g e (b .member) (subst (λ d. List·Memᴰ d (of i z g)) (sym is) listed)
@@ -348,7 +348,7 @@ module _ (n : ℕ) (gs : List Guard) (f : Every FairGuard gs)
         subst (Stronger e) (sym (q .is))
             (rw (best-demand s (g .clock) b)
             (stronger s (b .guard .relation) (g .relation) (b .guard .constant) (g .constant) (z (g .clock)) i
-            (f (b .guard) (b .member) .small) (f g k .small) (b .has) (q .has) (omega (arith, b .keyed, under)))),
+            (omega (arith, f (b .guard) (b .member) .small)) (omega (arith, f g k .small)) (b .has) (q .has) (omega (arith, b .keyed, under)))),
       )
         where
           q : Listed (g .constant) (z (g .clock)) i (g .relation) d
@@ -364,7 +364,7 @@ module _ (n : ℕ) (gs : List Guard) (f : Every FairGuard gs)
           under = omega (arith, least-under s (g .clock) gs g k, key-own s (g .clock) g refl)
 
           some : least s (g .clock) gs < none
-          some = omega (arith, under, has-key s (g .relation) (g .constant) (f g k .small) (q .has))
+          some = omega (arith, under, has-key s (g .relation) (g .constant) (omega (arith, f g k .small)) (q .has))
 
           b : Best s (g .clock) (least s (g .clock) gs) gs
           b = least-best s (g .clock) gs some

@@ -1,20 +1,21 @@
 // Of the guards of each step, the tightest on each clock from above and the tightest from below, as rows of keys.
-use table::Guard;
 use table::Relation;
 use table::Table;
 ghost use mathlib.Core.Path.{_≡_};
 ghost use mathlib.Core.Bool.{true, false};
 ghost use Prim.Native.Nat.{_≤_, _-_, min};
 ghost use Rattle.table.specs.Step.{Good};
-ghost use Rattle.sides.specs.Sides.{sideKey};
+ghost use Rattle.scaling.specs.Constants.{tableWith};
+ghost use Rattle.sides.specs.Sides.{most, sideKey};
 ghost use Rattle.sides.specs.Keys.{keysOf};
+ghost use Rattle.sides.specs.Filled.{Numbers};
 
-// The key of no guard.
-pub const NONE: u64 = 9000;
+// The key of no guard: past all others.
+pub const NONE: u64 = 8248002;
 
 // How tight a guard is from above: the smaller the tighter.
 fn upper_key(relation: Relation, constant: u64) -> u64
-    requires { ⌜ constant ≤ 4000 ⌝ }
+    requires { ⌜ constant ≤ most ⌝ }
     ensures { λ r. ⌜ r ≡ sideKey true relation constant ⌝ }
 {
     match relation {
@@ -28,25 +29,23 @@ fn upper_key(relation: Relation, constant: u64) -> u64
 
 // How tight it is from below.
 fn lower_key(relation: Relation, constant: u64) -> u64
-    requires { ⌜ constant ≤ 4000 ⌝ }
+    requires { ⌜ constant ≤ most ⌝ }
     ensures { λ r. ⌜ r ≡ sideKey false relation constant ⌝ }
 {
     match relation {
         Relation::Under => NONE,
         Relation::AtMost => NONE,
-        Relation::Exactly => 8001 - 2 * constant,
-        Relation::AtLeast => 8001 - 2 * constant,
-        Relation::Over => 8000 - 2 * constant,
+        Relation::Exactly => 8248001 - 2 * constant,
+        Relation::AtLeast => 8248001 - 2 * constant,
+        Relation::Over => 8248000 - 2 * constant,
     }
 }
 
 // The key of a guard's side.
-fn side_key(upper: bool, g: Guard) -> u64
-    requires { ⌜ g .constant ≤ 4000 ⌝ }
-    ensures { λ r. ⌜ r ≡ sideKey upper (g .relation) (g .constant) ⌝ }
+fn side_key(upper: bool, relation: Relation, constant: u64) -> u64
+    requires { ⌜ constant ≤ most ⌝ }
+    ensures { λ r. ⌜ r ≡ sideKey upper relation constant ⌝ }
 {
-    let relation = g.relation;
-    let constant = g.constant as u64;
     if upper {
         return upper_key(relation, constant);
     }
@@ -60,10 +59,11 @@ fn smaller(a: u64, b: u64) -> u64
     if a < b { a } else { b }
 }
 
-// The keys of all steps and clocks on a side. Step s is next, with the guard at place i.
-pub fn keys(t: Table, upper: bool) -> [u64; 112]
-    requires { ⌜ Good t ⌝ }
-    ensures { λ r. ⌜ r ≡ keysOf upper t ⌝ }
+// The keys of all steps and clocks on a side, where the guards have the constants of a row, in table order. Step s is next, with the
+// guard at place i.
+pub fn keys(t: Table, constants: &[u64; 64], upper: bool) -> [u64; 112]
+    requires { ⌜ Good t × Numbers t (now constants) ⌝ }
+    ensures { λ r. ⌜ r ≡ keysOf upper (tableWith (now (constants .entry)) t) ⌝ }
 {
     let mut row: [u64; 112] = [NONE; 112];
     let mut s: usize = 0;
@@ -71,8 +71,9 @@ pub fn keys(t: Table, upper: bool) -> [u64; 112]
     while s < t.steps {
         if i < t.ends[s + 1] {
             let g = t.guards[i];
+            let relation = g.relation;
             let at = 7 * s + g.clock as usize;
-            row[at] = smaller(row[at], side_key(upper, g));
+            row[at] = smaller(row[at], side_key(upper, relation, constants[i]));
             i += 1;
             continue;
         }

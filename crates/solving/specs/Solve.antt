@@ -1,15 +1,14 @@
 -- From the passes to what is written.
-use mathlib.Core.Path.{_≡_, refl, sym, ap, subst, _∙_}
+use mathlib.Core.Path.{_≡_, refl, sym, ap, _∙_}
 use mathlib.Core.Bool.{false}
-use mathlib.Core.List.{List, _∷_, _++_, List·Memᴰ, List·Memᴰ·head, Memᴰ·append-left, Memᴰ·append-right, Memᴰ·map}
-use Prim.Native.Nat.{ℕ, zero, suc, _+_, _*_, _-_, _≤_, _<_, _^_}
+use mathlib.Core.List.{List, _++_, List·Memᴰ, List·Memᴰ·head, Memᴰ·append-left, Memᴰ·append-right, Memᴰ·map}
+use Prim.Native.Nat.{ℕ, zero, suc, _+_, _*_, _-_, _≤_, _<_}
 use native.Mathlib.Omega.{arith}
 use native.Mathlib.Decide.{decLe}
 use lib.ListN.{length, take, drop}
-use Rattle.runs.specs.declared.Demand.{Demand}
 use Rattle.runs.specs.Demand.{plus, startsOf}
 use Rattle.runs.specs.Start.{start-upper}
-use Rattle.sweeps.specs.Order.{forthOf, returnOf, partnersFrom}
+use Rattle.sweeps.specs.Order.{returnOf, partnersFrom}
 use Rattle.sweeps.specs.Covered.{among-forth}
 use Rattle.basics.specs.Tab.{tab, is-tab, length-tab, getD-tab}
 use Rattle.paths.specs.Places.{at, written, filled, length-written, at-written, at-written-rest}
@@ -22,9 +21,9 @@ use Rattle.paths.specs.Cycle.{OnCycle}
 use Rattle.paths.specs.Code.{Wrote, wrote-rest, Returns, cycle-returns}
 use Rattle.paths.specs.Outcome.{outcome-least, outcome-wrote}
 use Rattle.paths.specs.Rises.{passes-rise}
-use Rattle.checks.specs.InParts.{inParts, allInParts}
-use Rattle.relaxing.specs.Rows.{Rows, sweep, moments, constraintsOf, Sound, sound-moments}
-use Rattle.relaxing.specs.Pass.{slight-fits}
+use Rattle.checks.specs.InParts.{edge}
+use Rattle.checks.specs.Checks.{slight-fits}
+use Rattle.relaxing.specs.Rows.{Rows, sweep, moments, constraintsOf, Sound}
 use Rattle.relaxing.specs.Passes.{Begins, Ended}
 use Rattle.relaxing.specs.Ending.{Ready, ended-under, ended-size}
 use Rattle.readout.specs.LeastStart.{leastStart}
@@ -102,10 +101,10 @@ module _ (R : Rows) (z : Sound R) where
       size₂ = ap length f ∙ length-written (λ i. 4001 * P) (K + 1) time₁ (omega (arith, size₁, h .room .time))
 
   -- ---- a solution: no moment is before the one before it
-  order-member : (i : ℕ) → i < K → List·Memᴰ (inParts P (plus (suc i) i 0 false)) cs
+  order-member : (i : ℕ) → i < K → List·Memᴰ (edge (plus (suc i) i 0 false)) cs
   unfolding constraintsOf
   order-member i l =
-      Memᴰ·map (inParts P)
+      Memᴰ·map edge
       (Memᴰ·append-right (partnersFrom K (startsOf (R .start)) 1 n)
       (Memᴰ·append-left (returnOf (R .up) (R .far) (R .steps) n K)
       (among-forth (R .low) (R .far) (R .steps) n K 0 K i (plus (suc i) i 0 false) (omega arith) (omega arith)
@@ -113,7 +112,7 @@ module _ (R : Rows) (z : Sound R) where
 
   rising : (x : ℕ → ℕ) → All cs x → (i : ℕ) → i ≤ K → x 0 ≤ x i
   rising x h zero l = omega arith
-  rising x h (suc i) l = omega (arith, rising x h i (omega arith), h (inParts P (plus (suc i) i 0 false)) (order-member i (omega arith)))
+  rising x h (suc i) l = omega (arith, rising x h i (omega arith), h (edge (plus (suc i) i 0 false)) (order-member i (omega arith)))
 
   -- ---- after them
   module _ (s s′ : State) (u : ℕ) (b : Begins P K n s) (e : Ended P cs s s′ u) where
@@ -204,7 +203,7 @@ module _ (R : Rows) (z : Sound R) where
               g
               ∙ written-same _ (λ j. leastStart (at (s′ .time)) (constraintsOf R) (K + (j + 1))) n starts fit
               (λ j w. sym
-              (least-forth P K (at (s′ .time)) (j + 1) (R .low) (R .far) (R .steps) n (R .up) (startsOf (R .start))
+              (least-forth K (at (s′ .time)) (j + 1) (R .low) (R .far) (R .steps) n (R .up) (startsOf (R .start))
               (start-upper (R .start) n) (omega arith)));
           loop = refl;
         }

@@ -7,29 +7,26 @@ use native.Mathlib.Nat.{mul-mod-left}
 use native.Mathlib.Omega.{arith}
 use lib.ListN.{length, set, getD, length-set}
 use lib.Seq.{getD-set-same, getD-set-other}
-use Rattle.table.specs.declared.Refusal.{Refusal}
 use Rattle.table.specs.declared.Table.{Table}
 use Rattle.runs.specs.declared.Start.the-variants.{LogIn}
 use Rattle.runs.specs.Demand.{startsOf, Exists}
-use Rattle.constraints.specs.Rounds.{length-rounds}
 use Rattle.constraints.specs.Sized.{Sized, partsOf, roundsOf}
-use Rattle.sides.specs.Keys.{keysOf}
-use Rattle.last_resets.specs.Distance.{distancesOf}
 use Rattle.paths.specs.Places.{at, filled, length-written, at-written, at-written-rest}
 use Rattle.ways.specs.Forth.{Going}
 use Rattle.relaxing.specs.Rows.{going-low, going-up}
-use Rattle.plan.specs.declared.Outcome.{Outcome}
-use Rattle.plan.specs.declared.Outcome.the-variants as outcome
+use Rattle.solving.specs.declared.Solution.{Solution}
+use Rattle.solving.specs.declared.Solution.the-variants as solution
 use Rattle.plan.specs.Planned.{Planned}
 use Rattle.plan.specs.Answer.{Rooms, momentsIn, startsIn, Planning, Answered}
 use Rattle.plan.specs.Asked.{sized-asked}
 use Rattle.plan.specs.Decides.{refuted-none}
-use Rattle.plan.specs.Rows.{rowsOf, rows-sound}
+use Rattle.plan.specs.Found.{outcomeOf}
+use Rattle.plan.specs.Rows.{rowsOf, rows-sound, Computed}
 use Rattle.window.specs.Window.{far, spanOf}
 use Rattle.lowering.specs.Lowered.{none}
 use Rattle.lowering.specs.Bounded.{Bounded}
 use Rattle.lowering.specs.Outcome.{Greatest}
-use Rattle.latest.specs.Steps.{stepParts}
+use Rattle.latest.specs.Steps.{stepEdges}
 use Rattle.spans.specs.Span.{Spans}
 use Rattle.spans.specs.Found.{Begins, stepsOf, begins-bounded, first-far, span-found}
 
@@ -108,51 +105,35 @@ module _ (t : Table) (k : ℕ) (z : Sized t k) where
         }
 
   -- ---- the rows as they were computed
-  module _ (low up distances : List ℕ) (e : low ≡ keysOf false t) (f : up ≡ keysOf true t) (g : distances ≡ distancesOf t) (Q : ℕ)
-      (q : Q ≡ P) where
-    same : stepParts Q low up distances (t .steps) n K ≡ stepsOf t k
-    same = rw (e, f, g, q) refl
+  module _ (low up distances : List ℕ) (c : Computed t k low up distances) where
+    same : stepEdges low up distances (t .steps) n K ≡ stepsOf t k
+    same = rw (c .below, c .above, c .distances) refl
 
     pub rows-going : Going low distances (t .steps) n K × Going up distances (t .steps) n K
     rows-going =
-        rw (e, f, g) (going-low (rowsOf t LogIn k) (rows-sound t LogIn k z), going-up (rowsOf t LogIn k) (rows-sound t LogIn k z))
+        rw (c .below, c .above, c .distances)
+        (going-low (rowsOf t LogIn k) (rows-sound t LogIn k z), going-up (rowsOf t LogIn k) (rows-sound t LogIn k z))
 
-    pub rows-bounded : Plannable t k → (l : List ℕ) → Begins K n l → Bounded Q (stepParts Q low up distances (t .steps) n K) l
+    pub rows-bounded : Plannable t k → (l : List ℕ) → Begins K n l → Bounded P (stepEdges low up distances (t .steps) n K) l
     rows-bounded p l b =
-        subst (λ N. Bounded N (stepParts Q low up distances (t .steps) n K) l) (sym q)
-        (subst (λ cs. Bounded P cs l) (sym same) (begins-bounded t k z (p .moments) (p .starts) (p .planned) l b))
+        subst (λ cs. Bounded P cs l) (sym same) (begins-bounded t k z (p .moments) (p .starts) (p .planned) l b)
 
-    pub rows-bounding : (l₀ l : List ℕ) → Begins K n l₀ → Greatest Q (stepParts Q low up distances (t .steps) n K) l₀ l
+    pub rows-bounding : (l₀ l : List ℕ) → Begins K n l₀ → Greatest P (stepEdges low up distances (t .steps) n K) l₀ l
         → Bounding t k l
-    rows-bounding l₀ l b h =
-        record {
-          first = l₀;
-          begins = b;
-          greatest =
-              subst (λ cs. Greatest P cs l₀ l) same
-              (subst (λ N. Greatest N (stepParts Q low up distances (t .steps) n K) l₀ l) q h);
-        }
+    rows-bounding l₀ l b h = record { first = l₀; begins = b; greatest = subst (λ cs. Greatest P cs l₀ l) same h }
 
   pub whole : K % t .steps ≡ 0
   whole = mul-mod-left k (t .steps)
 
-  -- ---- the answer
-  module _ (r r′ : Rooms) (a : Outcome) (h : Answered n (roundsOf t k) (startsOf LogIn) r r′ a) where
+  -- ---- what solving the rows has found
+  module _ (r r′ : Rooms) (s : Solution) (h : Answered n (roundsOf t k) (startsOf LogIn) r r′ (outcomeOf P s)) where
     -- a plan
-    module _ (Q : ℕ) (e : a ≡ outcome.Found Q) where
-      found : Planning n (roundsOf t k) (startsOf LogIn) r r′ Q
-      found = subst (Answered n (roundsOf t k) (startsOf LogIn) r r′) e h
-
-      pub plan-parts : Q ≡ P
-      plan-parts = omega (arith, found .parts, length-rounds t k)
-
-      planned : Planned P n (roundsOf t k) (startsOf LogIn) (momentsIn (r′ .times)) (startsIn (r′ .starts))
-      planned =
-          subst (λ N. Planned N n (roundsOf t k) (startsOf LogIn) (momentsIn (r′ .times)) (startsIn (r′ .starts))) plan-parts
-          (found .planned)
+    module _ (e : s ≡ solution.Least) where
+      found : Planning n (roundsOf t k) (startsOf LogIn) r r′ P
+      found = subst (λ q. Answered n (roundsOf t k) (startsOf LogIn) r r′ (outcomeOf P q)) e h
 
       pub plan-plannable : Plannable t k
-      plan-plannable = record { moments = momentsIn (r′ .times); starts = startsIn (r′ .starts); planned = planned }
+      plan-plannable = record { moments = momentsIn (r′ .times); starts = startsIn (r′ .starts); planned = found .planned }
 
       pub plan-room : P ≤ length (r .loop) → P ≤ length (r′ .loop)
       plan-room w = omega (arith, w, ap length (found .loop))
@@ -163,17 +144,13 @@ module _ (t : Table) (k : ℕ) (z : Sized t k) where
           told : Told t k (r′ .times) l
           told =
               record {
-                near = λ i w. first-far t k z _ _ planned (suc i) (omega arith);
+                near = λ i w. first-far t k z _ _ (found .planned) (suc i) (omega arith);
                 spans = λ i w.
-                    span-found t k z _ _ planned (g .1 .first) l (g .1 .begins) (g .1 .greatest) (suc i) (omega arith);
+                    span-found t k z _ _ (found .planned) (g .1 .first) l (g .1 .begins) (g .1 .greatest) (suc i) (omega arith);
               }
 
     -- a loop
-    pub loop-exact : (m : ℕ) → a ≡ outcome.Loop m → ¬ Exists n (startsOf LogIn) (roundsOf t k)
+    pub loop-exact : (m : ℕ) → s ≡ solution.Cycle m → ¬ Exists n (startsOf LogIn) (roundsOf t k)
     loop-exact m e =
         refuted-none n (roundsOf t k) (startsOf LogIn) r r′ m (sized-asked t LogIn k z)
-        (subst (Answered n (roundsOf t k) (startsOf LogIn) r r′) e h)
-
-    -- nothing is refused here
-    pub none-refused : (f : Refusal) → a ≡ outcome.Refused f → ⊥
-    none-refused f e = subst (Answered n (roundsOf t k) (startsOf LogIn) r r′) e h
+        (subst (λ q. Answered n (roundsOf t k) (startsOf LogIn) r r′ (outcomeOf P q)) e h)

@@ -3,7 +3,7 @@ use mathlib.Core.Path.{_≡_, refl, sym, ap, subst, _∙_}
 use mathlib.Core.Bool.{true, false}
 use mathlib.Core.Logic.{_⊎_, inl, inr, ⊎-elim}
 use mathlib.Core.List.{List, [], _∷_, _++_, map, List·Memᴰ, Memᴰ·map, Memᴰ·of-map, Memᴰ·append-left, Memᴰ·append-right}
-use mathlib.Core.List.{List·Memᴰ·append-cases, List·Memᴰ·cases-cons, List·Memᴰ·not-nil}
+use mathlib.Core.List.{List·Memᴰ·append-cases, List·Memᴰ·cases-cons, List·Memᴰ·not-nil, map-append}
 use Prim.Native.Nat.{ℕ, zero, suc, _+_, _*_, _-_, _≤_, _<_}
 use native.Mathlib.Omega.{arith}
 use native.Mathlib.Decide.{decLe, decLt}
@@ -19,12 +19,13 @@ use Rattle.sides.specs.Keys.{keysOf}
 use Rattle.last_resets.specs.Distance.{distancesOf}
 use Rattle.sweeps.specs.Order.{forthOf, backOf, partnersFrom}
 use Rattle.sweeps.specs.Ends.{start-listed}
+use Rattle.sweeps.specs.Scaled.{forth-scaled, back-scaled}
 use Rattle.paths.specs.Places.{at}
 use Rattle.paths.specs.Constraint.{Constraint, Holds, All}
-use Rattle.checks.specs.InParts.{inParts, allInParts}
+use Rattle.checks.specs.InParts.{inParts, allInParts, edge, edges, edges-scaled}
 use Rattle.relaxing.specs.Rows.{constraintsOf}
 use Rattle.plan.specs.Planned.{Planned}
-use Rattle.plan.specs.Rows.{rowsOf}
+use Rattle.plan.specs.Rows.{keysIn, rowsOf}
 use Rattle.window.specs.Window.{far, spanOf}
 use Rattle.window.specs.Spans.{span-closed, span-open}
 use Rattle.lowering.specs.Lowered.{none}
@@ -32,7 +33,7 @@ use Rattle.lowering.specs.Count.{reached}
 use Rattle.lowering.specs.Bounded.{unit, Bounded, bounded-near}
 use Rattle.lowering.specs.Outcome.{Greatest}
 use Rattle.lowering.specs.Last.{Last, Tops, tops-solve, last-found, none-found, first-near}
-use Rattle.latest.specs.Steps.{forthParts, backParts, stepParts, parts-among}
+use Rattle.latest.specs.Steps.{forthEdges, backEdges, stepEdges, edges-among}
 use Rattle.spans.specs.Span.{With, Earliest, Latest, Unbounded, Spans}
 use Rattle.spans.specs.Solutions.{all-fit, all-weights, all-now, all-past, run-of, timesOf, times-solve, times-now, times-start, times-past}
 
@@ -67,7 +68,7 @@ partner-listed K j (suc n) d p m =
 
 -- the demands of the steps of k rounds, in parts
 abbrev pub stepsOf : Table → ℕ → List Constraint
-stepsOf t k = stepParts (partsOf t k) (keysOf false t) (keysOf true t) (distancesOf t) (t .steps) (t .clocks) (k * t .steps)
+stepsOf t k = stepEdges (keysIn false t k) (keysIn true t k) (distancesOf t) (t .steps) (t .clocks) (k * t .steps)
 
 module _ (t : Table) (k : ℕ) (z : Sized t k) where
   abbrev K : ℕ
@@ -92,10 +93,10 @@ module _ (t : Table) (k : ℕ) (z : Sized t k) where
   cs = constraintsOf (rowsOf t LogIn k)
 
   abbrev low : List ℕ
-  low = keysOf false t
+  low = keysIn false t k
 
   abbrev up : List ℕ
-  up = keysOf true t
+  up = keysIn true t k
 
   abbrev distances : List ℕ
   distances = distancesOf t
@@ -115,16 +116,28 @@ module _ (t : Table) (k : ℕ) (z : Sized t k) where
   abbrev starts : List Demand
   starts = startDemands K anyStarts 1 n
 
+  -- What is lowered is, constraint by constraint and in the same order, what the demands in ticks are in parts.
+  pub steps-same : steps ≡ allInParts P (forthOf (keysOf false t) distances L n K 0 K ++ backOf (keysOf true t) distances L n K K)
+  unfolding forthEdges backEdges
+  steps-same =
+      rw (
+        forth-scaled t k z P (omega arith) (sized-parts t k z),
+        back-scaled t k z P (omega arith) (sized-parts t k z),
+        edges-scaled P (forthOf (keysOf false t) distances L n K 0 K),
+        edges-scaled P (backOf (keysOf true t) distances L n K K),
+      )
+      (sym (map-append (inParts P) (forthOf (keysOf false t) distances L n K 0 K) (backOf (keysOf true t) distances L n K K)))
+
   -- ---- they are all but those between the start and the last resets before it
   steps-among : (c : Constraint) → List·Memᴰ c steps → List·Memᴰ c cs
-  unfolding constraintsOf forthParts backParts
+  unfolding constraintsOf forthEdges backEdges
   steps-among c m =
       ⊎-elim
-      (parts-among P forth (partners ++ (forth ++ (back ++ starts)))
+      (edges-among forth (partners ++ (forth ++ (back ++ starts)))
       (λ d q. Memᴰ·append-right partners (Memᴰ·append-left (back ++ starts) q)) c)
-      (parts-among P back (partners ++ (forth ++ (back ++ starts)))
+      (edges-among back (partners ++ (forth ++ (back ++ starts)))
       (λ d q. Memᴰ·append-right partners (Memᴰ·append-right forth (Memᴰ·append-left starts q))) c)
-      (List·Memᴰ·append-cases (allInParts P forth) m)
+      (List·Memᴰ·append-cases (edges forth) m)
 
   -- between two moments of which each is the start or a last reset before it, with no gain
   record AtStart (c : Constraint) : Type 0 where
@@ -133,24 +146,24 @@ module _ (t : Table) (k : ℕ) (z : Sized t k) where
     gain : c .gain ≡ 0
 
   all-cases : (c : Constraint) → List·Memᴰ c cs → List·Memᴰ c steps ⊎ AtStart c
-  unfolding constraintsOf forthParts backParts
-  all-cases c m = go (Memᴰ·of-map (inParts P) (partners ++ (forth ++ (back ++ starts))) m)
+  unfolding constraintsOf forthEdges backEdges
+  all-cases c m = go (Memᴰ·of-map edge (partners ++ (forth ++ (back ++ starts))) m)
     where
-      partner : (d : Demand) → inParts P d ≡ c → (b : ℕ) × (0 < b) × (d ≡ plus (K + b) 0 0 false) → AtStart c
+      partner : (d : Demand) → edge d ≡ c → (b : ℕ) × (0 < b) × (d ≡ plus (K + b) 0 0 false) → AtStart c
       partner d e b =
-          let f : inParts P (plus (K + b .0) 0 0 false) ≡ c = ap (inParts P) (sym (b .2)) ∙ e in
+          let f : edge (plus (K + b .0) 0 0 false) ≡ c = ap edge (sym (b .2)) ∙ e in
           rw (← f) (record { from = inr (b .0, b .1, refl); to = inl refl; gain = omega arith })
 
-      start : (d : Demand) → inParts P d ≡ c → (b : ℕ) × (1 ≤ b) × (d ≡ plus 0 (K + b) 0 false) → AtStart c
+      start : (d : Demand) → edge d ≡ c → (b : ℕ) × (1 ≤ b) × (d ≡ plus 0 (K + b) 0 false) → AtStart c
       start d e b =
-          let f : inParts P (plus 0 (K + b .0) 0 false) ≡ c = ap (inParts P) (sym (b .2)) ∙ e in
+          let f : edge (plus 0 (K + b .0) 0 false) ≡ c = ap edge (sym (b .2)) ∙ e in
           rw (← f) (record { from = inl refl; to = inr (b .0, b .1, refl); gain = omega arith })
 
-      go : (d : Demand) × List·Memᴰ d (partners ++ (forth ++ (back ++ starts))) × (inParts P d ≡ c) → List·Memᴰ c steps ⊎ AtStart c
+      go : (d : Demand) × List·Memᴰ d (partners ++ (forth ++ (back ++ starts))) × (edge d ≡ c) → List·Memᴰ c steps ⊎ AtStart c
       go d =
           ⊎-elim (λ q. inr (partner (d .0) (d .2) (partner-listed K 1 n (d .0) (omega arith) q)))
-          (λ q. ⊎-elim (λ x. inl (rw (← d .2) (Memᴰ·append-left (allInParts P back) (Memᴰ·map (inParts P) x))))
-          (λ x. ⊎-elim (λ y. inl (rw (← d .2) (Memᴰ·append-right (allInParts P forth) (Memᴰ·map (inParts P) y))))
+          (λ q. ⊎-elim (λ x. inl (rw (← d .2) (Memᴰ·append-left (edges back) (Memᴰ·map edge x))))
+          (λ x. ⊎-elim (λ y. inl (rw (← d .2) (Memᴰ·append-right (edges forth) (Memᴰ·map edge y))))
           (λ y. inr (start (d .0) (d .2) (start-listed K 1 n (d .0) y)))
           (List·Memᴰ·append-cases back x))
           (List·Memᴰ·append-cases forth q))

@@ -1,5 +1,5 @@
 -- Solutions of the demands that a pass checks, from log-in, are runs; and a run is such a solution, with the start at 0.
-use mathlib.Core.Path.{_≡_, subst}
+use mathlib.Core.Path.{_≡_, sym, subst}
 use mathlib.Core.List.{List, List·Memᴰ, Memᴰ·of-map}
 use Prim.Native.Nat.{ℕ, _+_, _*_, _-_, _≤_, _<_}
 use native.Mathlib.Omega.{arith}
@@ -17,12 +17,12 @@ use Rattle.constraints.specs.Rounds.{length-rounds}
 use Rattle.constraints.specs.Sized.{Sized, partsOf, roundsOf}
 use Rattle.sides.specs.Covers.{covers-satisfies}
 use Rattle.paths.specs.Constraint.{Constraint, All, Fits}
-use Rattle.checks.specs.InParts.{inParts, satisfies-parts}
+use Rattle.checks.specs.InParts.{edge, satisfies-parts}
+use Rattle.checks.specs.Checks.{slight-fits, slight-gains}
 use Rattle.relaxing.specs.Rows.{Rows, sweep, constraintsOf}
-use Rattle.relaxing.specs.Pass.{slight-fits}
 use Rattle.plan.specs.Asked.{Asked, sized-asked, asked-places}
 use Rattle.plan.specs.Earliest.{solution-now, solution-past}
-use Rattle.plan.specs.Rows.{rowsOf, rows-cover, rows-sound}
+use Rattle.plan.specs.Rows.{rowsOf, tightest, rows-same, rows-cover, rows-sound}
 use Rattle.lowering.specs.Bounded.{unit}
 use Rattle.lowering.specs.Gap.{Weights}
 use Rattle.spans.specs.Span.{With}
@@ -61,24 +61,23 @@ module _ (t : Table) (k : ℕ) (z : Sized t k) where
   unfolding constraintsOf
   all-weights =
       record {
-        gain = λ c m. gain c (Memᴰ·of-map (inParts P) (sweep R) m);
-        loss = λ c m. loss c (Memᴰ·of-map (inParts P) (sweep R) m);
+        gain = slight-gains P (sweep R) (rows-sound t LogIn k z .slight);
+        loss = λ c m. loss c (Memᴰ·of-map edge (sweep R) m);
       }
     where
-      gain : (c : Constraint) → (d : Demand) × List·Memᴰ d (sweep R) × (inParts P d ≡ c) → c .gain ≤ unit
-      gain c d = rw (← d .2) (rows-sound t LogIn k z .slight (d .0) (d .1) .gain)
-
-      loss : (c : Constraint) → (d : Demand) × List·Memᴰ d (sweep R) × (inParts P d ≡ c) → c .loss ≤ unit
+      loss : (c : Constraint) → (d : Demand) × List·Memᴰ d (sweep R) × (edge d ≡ c) → c .loss ≤ unit
       loss c d = rw (← d .2) (rows-sound t LogIn k z .slight (d .0) (d .1) .loss)
 
   -- ---- solutions
   unfoldable satisfied : (y : ℕ → ℕ) → All cs y → Satisfies P y (demands n σ D)
-  unfolding constraintsOf
-  satisfied y h = covers-satisfies (rows-cover t LogIn k z) P y (omega arith) .0 (satisfies-parts P y (sweep R) .1 h)
+  satisfied y h =
+      covers-satisfies (rows-cover t LogIn k z) P y (omega arith) .0
+      (satisfies-parts P y (tightest t LogIn k) .1 (subst (λ l. All l y) (rows-same t LogIn k z) h))
 
   solved : (y : ℕ → ℕ) → Satisfies P y (demands n σ D) → All cs y
-  unfolding constraintsOf
-  solved y h = satisfies-parts P y (sweep R) .0 (covers-satisfies (rows-cover t LogIn k z) P y (omega arith) .1 h)
+  solved y h =
+      subst (λ l. All l y) (sym (rows-same t LogIn k z))
+      (satisfies-parts P y (tightest t LogIn k) .0 (covers-satisfies (rows-cover t LogIn k z) P y (omega arith) .1 h))
 
   -- no step is before the start, and the last resets before the start are not after it
   pub all-now : (y : ℕ → ℕ) → All cs y → (i : ℕ) → i ≤ K → y 0 ≤ y i

@@ -3,10 +3,11 @@ use last_resets::distances;
 use latest::settle;
 use lowering::NONE;
 use paths::fill;
-use plan::Outcome;
-use plan::plan_rounds;
 use runs::Start;
+use scaling::scaled;
 use sides::keys;
+use solving::Solution;
+use spaces::solve_here;
 use table::Table;
 ghost use mathlib.Core.Path.{_≡_};
 ghost use mathlib.Core.Bool.{true};
@@ -15,35 +16,54 @@ ghost use lib.ListN.{length};
 ghost use Rattle.runs.specs.declared.Start.the-variants.{LogIn};
 ghost use Rattle.constraints.specs.Sized.{Sized, partsOf};
 ghost use Rattle.solving.specs.Solve.{Roomy};
-ghost use Rattle.plan.specs.Rows.{rowsOf};
+ghost use Rattle.plan.specs.Rows.{rowsOf, Computed};
 ghost use Rattle.spans.specs.Exact.{Plannable, Bounding, Exact};
 
-// The last moments of the steps of k rounds that have a plan: that of step i, or NONE, at place i.
-fn last_moments(t: Table, k: usize, parts: u64, late: &mut [u64]) -> bool
-    requires { ⌜ Sized t k × Plannable t k × (parts ≡ partsOf t k) × (partsOf t k ≤ length (now late)) ⌝ }
+// The last moments of the steps of k rounds that have a plan: that of step i, or NONE, at place i. The rows are those of the table.
+fn last_moments(
+    t: Table,
+    k: usize,
+    low: &[u64],
+    up: &[u64],
+    far: &[usize],
+    late: &mut [u64],
+) -> bool
+    requires { ⌜ Sized t k × Plannable t k × Computed t k (now low) (now up) (now far) × (partsOf t k ≤ length (now late)) ⌝ }
     ensures { λ r. ⌜ (r ≡ true) × Bounding t k (now (late .exit)) ⌝ }
 {
     let total = k * t.steps;
     fill(late, total + t.clocks + 1, 0);
     fill(late, total + 1, NONE);
     late[0] = 0;
-    let low = keys(t, false);
-    let up = keys(t, true);
-    let far = distances(t);
-    settle(&low, &up, &far, t.steps, t.clocks, total, parts, late);
+    settle(low, up, far, t.steps, t.clocks, total, late);
     true
 }
 
 // Whether a run of k rounds exists. Then the first moments of the steps stand in the first places of `firsts`, and the last ones in
-// those of `lasts` from place 1 on. `starts` is room for the plan.
+// those of `lasts` from place 1 on. `starts` is room for the plan. The constants are scaled once, for the plan and for the last moments.
 pub fn exact(t: Table, k: usize, firsts: &mut [u64], starts: &mut [u64], lasts: &mut [u64]) -> bool
     requires { ⌜ Sized t k × Roomy (rowsOf t LogIn k) (now firsts) (now starts) (now lasts) ⌝ }
     ensures { λ r. ⌜ Exact t k (now (firsts .exit)) (now (lasts .exit)) r ⌝ }
 {
-    let outcome = plan_rounds(t, Start::LogIn, k, firsts, starts, lasts);
-    match outcome {
-        Outcome::Found(parts) => last_moments(t, k, parts, lasts),
-        Outcome::Loop(_) => false,
-        Outcome::Refused(_) => false,
+    let total = k * t.steps;
+    let constants = scaled(t, (total + t.clocks + 1) as u64);
+    let low = keys(t, &constants, false);
+    let up = keys(t, &constants, true);
+    let far = distances(t);
+    let found = solve_here(
+        &low,
+        &up,
+        &far,
+        Start::LogIn,
+        t.steps,
+        t.clocks,
+        total,
+        firsts,
+        starts,
+        lasts,
+    );
+    match found {
+        Solution::Least => last_moments(t, k, &low, &up, &far, lasts),
+        Solution::Cycle(_) => false,
     }
 }

@@ -3,15 +3,9 @@
 use runs::Demand;
 ghost use mathlib.Core.Path.{_≡_};
 ghost use mathlib.Core.Bool.{true, false};
-ghost use Prim.Native.Nat.{_-_};
+ghost use Prim.Native.Nat.{_<_};
+ghost use Rattle.sides.specs.Sides.{none};
 ghost use Rattle.sides.specs.Tight.{keyDemand};
-
-// What is left of 8001.
-fn rest(key: u64) -> u64
-    ensures { λ r. ⌜ r ≡ 8001 - key ⌝ }
-{
-    if key < 8001 { 8001 - key } else { 0 }
-}
 
 // The demand of a key from above, at moment i on a clock last reset at moment z.
 pub fn upper_demand(key: u64, z: usize, i: usize) -> Demand
@@ -28,13 +22,14 @@ pub fn upper_demand(key: u64, z: usize, i: usize) -> Demand
 
 // The demand of a key from below.
 pub fn lower_demand(key: u64, z: usize, i: usize) -> Demand
+    requires { ⌜ key < none ⌝ }
     ensures { λ r. ⌜ r ≡ keyDemand false key z i ⌝ }
 {
     Demand {
         from: i,
         to: z,
         up: 0,
-        down: rest(key) / 2,
+        down: (8248001 - key) / 2,
         strict: key % 2 == 0,
     }
 }

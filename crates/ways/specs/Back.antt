@@ -1,5 +1,5 @@
 -- The checks back, from the last step to the first: the guards of each step from above.
-use mathlib.Core.Path.{_≡_, sym, ap, subst, _∙_}
+use mathlib.Core.Path.{_≡_, ap, subst, _∙_}
 use mathlib.Core.Bool.{Bool, true}
 use mathlib.Core.List.{List, [], _++_}
 use Prim.Native.Nat.{ℕ, suc, _-_, _%_, _<_}
@@ -17,26 +17,26 @@ step-back i s r L p l e f =
     let g : i ≡ suc (i - 1) = omega arith in
     f ∙ ap (λ n. precedingOf n L) (e ∙ ap (λ n. n % L) g) ∙ preceding-mod (i - 1) L p
 
-module _ (P : ℕ) (up far : List ℕ) (L n K : ℕ) (h₀ : Bool) (q₀ : ℕ) (s₀ : State) where
+module _ (up far : List ℕ) (L n K : ℕ) (h₀ : Bool) (q₀ : ℕ) (s₀ : State) where
   abbrev all : List Demand
   all = backOf up far L n K K
 
   -- the steps before i + 1 are left, and step i is step s of its round
-  module _ (i m : ℕ) (g : m ≡ suc i) (h : Bool) (q : ℕ) (x : State) (u : Turn P all h₀ q₀ s₀ (backOf up far L n K m) h q x) (s : ℕ)
+  module _ (i m : ℕ) (g : m ≡ suc i) (h : Bool) (q : ℕ) (x : State) (u : Turn all h₀ q₀ s₀ (backOf up far L n K m) h q x) (s : ℕ)
       (e : s ≡ i % L) where
     left : backOf up far L n K m ≡ sideOf true up far K s i 1 n ++ backOf up far L n K i
     left = rw (e, g) (back-more up far L n K i)
 
-    pub upper-able : Checkable P (sideOf true up far K s i 1 n) x q
-    upper-able = turn-able P all h₀ q₀ s₀ _ (sideOf true up far K s i 1 n) _ left h q x u
+    pub upper-able : Checkable (sideOf true up far K s i 1 n) x q
+    upper-able = turn-able all h₀ q₀ s₀ _ (sideOf true up far K s i 1 n) _ left h q x u
 
-    pub back-next : (x′ : State) (h′ : Bool) (q′ : ℕ) → Checked P (sideOf true up far K s i 1 n) h q x x′ h′ q′
-        → Turn P all h₀ q₀ s₀ (backOf up far L n K i) h′ q′ x′
-    back-next x′ h′ q′ c = turn-more P all h₀ q₀ s₀ _ (sideOf true up far K s i 1 n) _ left h q x u x′ h′ q′ c
+    pub back-next : (x′ : State) (h′ : Bool) (q′ : ℕ) → Checked (sideOf true up far K s i 1 n) h q x x′ h′ q′
+        → Turn all h₀ q₀ s₀ (backOf up far L n K i) h′ q′ x′
+    back-next x′ h′ q′ c = turn-more all h₀ q₀ s₀ _ (sideOf true up far K s i 1 n) _ left h q x u x′ h′ q′ c
 
   -- none is left
-  pub back-last : (i : ℕ) (h : Bool) (q : ℕ) (x : State) → i ≡ 0 → Turn P all h₀ q₀ s₀ (backOf up far L n K i) h q x
-      → Checked P all h₀ q₀ s₀ x h q
+  pub back-last : (i : ℕ) (h : Bool) (q : ℕ) (x : State) → i ≡ 0 → Turn all h₀ q₀ s₀ (backOf up far L n K i) h q x
+      → Checked all h₀ q₀ s₀ x h q
   back-last i h q x e u =
       let none : backOf up far L n K i ≡ [] = rw e (back-none up far L n K) in
-      turn-last P all h₀ q₀ s₀ h q x (subst (λ ds. Turn P all h₀ q₀ s₀ ds h q x) none u)
+      turn-last all h₀ q₀ s₀ h q x (subst (λ ds. Turn all h₀ q₀ s₀ ds h q x) none u)

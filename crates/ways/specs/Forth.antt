@@ -9,7 +9,7 @@ use native.Mathlib.Omega.{arith}
 use lib.ListN.{length}
 use Rattle.runs.specs.declared.Demand.{Demand}
 use Rattle.runs.specs.Demand.{plus}
-use Rattle.sweeps.specs.Order.{sideOf, forthAt, forthOf, forth-none, forth-more}
+use Rattle.sweeps.specs.Order.{sideOf, forthOf, forth-none, forth-more}
 use Rattle.paths.specs.State.{State}
 use Rattle.checks.specs.Checks.{Checkable, Checked}
 use Rattle.checks.specs.Turns.{Turn, turn-first, turn-able, turn-more, turn-last}
@@ -40,16 +40,16 @@ going-placed keys far L n K s i g e l =
 abbrev pub forthFrom : List ℕ → List ℕ → ℕ → ℕ → ℕ → ℕ → List Demand
 forthFrom low far L n K i = forthOf low far L n K i (K - i)
 
-module _ (P : ℕ) (low far : List ℕ) (L n K : ℕ) (h₀ : Bool) (q₀ : ℕ) (s₀ : State) where
+module _ (low far : List ℕ) (L n K : ℕ) (h₀ : Bool) (q₀ : ℕ) (s₀ : State) where
   abbrev all : List Demand
   all = forthOf low far L n K 0 K
 
-  pub forth-first : Checkable P all s₀ q₀ → Turn P all h₀ q₀ s₀ (forthFrom low far L n K 0) h₀ q₀ s₀
+  pub forth-first : Checkable all s₀ q₀ → Turn all h₀ q₀ s₀ (forthFrom low far L n K 0) h₀ q₀ s₀
   forth-first a =
       let e : K ≡ K - 0 = omega arith in
-      subst (λ m. Turn P all h₀ q₀ s₀ (forthOf low far L n K 0 m) h₀ q₀ s₀) e (turn-first P all h₀ q₀ s₀ a)
+      subst (λ m. Turn all h₀ q₀ s₀ (forthOf low far L n K 0 m) h₀ q₀ s₀) e (turn-first all h₀ q₀ s₀ a)
 
-  module _ (i : ℕ) (h : Bool) (q : ℕ) (x : State) (u : Turn P all h₀ q₀ s₀ (forthFrom low far L n K i) h q x) where
+  module _ (i : ℕ) (h : Bool) (q : ℕ) (x : State) (u : Turn all h₀ q₀ s₀ (forthFrom low far L n K i) h q x) where
     -- step i, which is step s of its round, and d its order demand
     module _ (l : i < K) (s : ℕ) (e : s ≡ i % L) (d : Demand) (f : d ≡ plus (i + 1) i 0 false) where
       later : List Demand
@@ -60,23 +60,23 @@ module _ (P : ℕ) (low far : List ℕ) (L n K : ℕ) (h₀ : Bool) (q₀ : ℕ)
           let g : K - i ≡ suc (K - (i + 1)) = omega arith in
           rw (e, f, g, add-one i) (forth-more low far L n K i (K - suc i))
 
-      pub order-able : Checkable P (d ∷ []) x q
-      order-able = turn-able P all h₀ q₀ s₀ _ (d ∷ []) _ left h q x u
+      pub order-able : Checkable (d ∷ []) x q
+      order-able = turn-able all h₀ q₀ s₀ _ (d ∷ []) _ left h q x u
 
-      module _ (x₁ : State) (h₁ : Bool) (q₁ : ℕ) (c : Checked P (d ∷ []) h q x x₁ h₁ q₁) where
-        ordered : Turn P all h₀ q₀ s₀ (sideOf false low far K s i 1 n ++ forthFrom low far L n K (i + 1)) h₁ q₁ x₁
-        ordered = turn-more P all h₀ q₀ s₀ _ (d ∷ []) _ left h q x u x₁ h₁ q₁ c
+      module _ (x₁ : State) (h₁ : Bool) (q₁ : ℕ) (c : Checked (d ∷ []) h q x x₁ h₁ q₁) where
+        ordered : Turn all h₀ q₀ s₀ (sideOf false low far K s i 1 n ++ forthFrom low far L n K (i + 1)) h₁ q₁ x₁
+        ordered = turn-more all h₀ q₀ s₀ _ (d ∷ []) _ left h q x u x₁ h₁ q₁ c
 
-        pub lower-able : Checkable P (sideOf false low far K s i 1 n) x₁ q₁
-        lower-able = turn-able P all h₀ q₀ s₀ _ (sideOf false low far K s i 1 n) _ refl h₁ q₁ x₁ ordered
+        pub lower-able : Checkable (sideOf false low far K s i 1 n) x₁ q₁
+        lower-able = turn-able all h₀ q₀ s₀ _ (sideOf false low far K s i 1 n) _ refl h₁ q₁ x₁ ordered
 
-        pub forth-next : (x₂ : State) (h₂ : Bool) (q₂ : ℕ) → Checked P (sideOf false low far K s i 1 n) h₁ q₁ x₁ x₂ h₂ q₂
-            → Turn P all h₀ q₀ s₀ (forthFrom low far L n K (i + 1)) h₂ q₂ x₂
-        forth-next x₂ h₂ q₂ k = turn-more P all h₀ q₀ s₀ _ (sideOf false low far K s i 1 n) _ refl h₁ q₁ x₁ ordered x₂ h₂ q₂ k
+        pub forth-next : (x₂ : State) (h₂ : Bool) (q₂ : ℕ) → Checked (sideOf false low far K s i 1 n) h₁ q₁ x₁ x₂ h₂ q₂
+            → Turn all h₀ q₀ s₀ (forthFrom low far L n K (i + 1)) h₂ q₂ x₂
+        forth-next x₂ h₂ q₂ k = turn-more all h₀ q₀ s₀ _ (sideOf false low far K s i 1 n) _ refl h₁ q₁ x₁ ordered x₂ h₂ q₂ k
 
     -- all steps are past
-    pub forth-last : K ≤ i → Checked P all h₀ q₀ s₀ x h q
+    pub forth-last : K ≤ i → Checked all h₀ q₀ s₀ x h q
     forth-last l =
         let e : K - i ≡ 0 = omega arith in
         let none : forthFrom low far L n K i ≡ [] = rw e (forth-none low far L n K i) in
-        turn-last P all h₀ q₀ s₀ h q x (subst (λ ds. Turn P all h₀ q₀ s₀ ds h q x) none u)
+        turn-last all h₀ q₀ s₀ h q x (subst (λ ds. Turn all h₀ q₀ s₀ ds h q x) none u)

@@ -20,16 +20,16 @@ pub partners-by : (K : ℕ) (D : Starts) → ByClock (partnersFrom K D) (λ j. m
 partners-by K D = record { none = partners-none K D; more = partners-more K D }
 
 -- ---- one partner, or none
-module _ (P : ℕ) (p : Partner) where
-  pub one-able : (d : Demand) → p ≡ One d → (s : State) (q : ℕ) → Checkable P (partnerList p) s q → Checkable P (d ∷ []) s q
-  one-able d e s q = subst (λ r. Checkable P (partnerList r) s q) e
+module _ (p : Partner) where
+  pub one-able : (d : Demand) → p ≡ One d → (s : State) (q : ℕ) → Checkable (partnerList p) s q → Checkable (d ∷ []) s q
+  one-able d e s q = subst (λ r. Checkable (partnerList r) s q) e
 
   pub one-checked : (d : Demand) → p ≡ One d → (h : Bool) (q : ℕ) (s s′ : State) (h′ : Bool) (q′ : ℕ)
-      → Checked P (d ∷ []) h q s s′ h′ q′ → Checked P (partnerList p) h q s s′ h′ q′
-  one-checked d e h q s s′ h′ q′ = subst (λ r. Checked P (partnerList r) h q s s′ h′ q′) (sym e)
+      → Checked (d ∷ []) h q s s′ h′ q′ → Checked (partnerList p) h q s s′ h′ q′
+  one-checked d e h q s s′ h′ q′ = subst (λ r. Checked (partnerList r) h q s s′ h′ q′) (sym e)
 
-  pub none-checked : p ≡ None → (h : Bool) (q : ℕ) (s : State) → Checked P (partnerList p) h q s s h q
-  none-checked e h q s = subst (λ r. Checked P (partnerList r) h q s s h q) (sym e) (checked-none P h q s)
+  pub none-checked : p ≡ None → (h : Bool) (q : ℕ) (s : State) → Checked (partnerList p) h q s s h q
+  none-checked e h q s = subst (λ r. Checked (partnerList r) h q s s h q) (sym e) (checked-none h q s)
 
 -- ---- a variant that has none
 empty : {A : Type 0} (l : List A) → length l ≡ 0 → l ≡ []
@@ -43,6 +43,6 @@ none-from v K j (suc n) e =
     ∙ ap (λ ds. map (moved K) ds ++ partnersFrom K (startsOf v) (suc j) n) (empty (startsOf v j) (partners-are v j ∙ e))
     ∙ none-from v K (suc j) n e
 
-pub skipped : (v : Start) (P K n : ℕ) (h : Bool) (q : ℕ) (s : State) → partnersOf v ≡ 0
-    → Checked P (partnersFrom K (startsOf v) 1 n) h q s s h q
-skipped v P K n h q s e = subst (λ ds. Checked P ds h q s s h q) (sym (none-from v K 1 n e)) (checked-none P h q s)
+pub skipped : (v : Start) (K n : ℕ) (h : Bool) (q : ℕ) (s : State) → partnersOf v ≡ 0
+    → Checked (partnersFrom K (startsOf v) 1 n) h q s s h q
+skipped v K n h q s e = subst (λ ds. Checked ds h q s s h q) (sym (none-from v K 1 n e)) (checked-none h q s)

@@ -22,19 +22,18 @@ ghost use Rattle.ways.specs.Forth.{Going};
 // The check of a partner, if it is one.
 fn check_partner(
     partner: Partner,
-    parts: u64,
     time: &mut [u64],
     parent: &mut [u64],
     stamp: &mut [u64],
     w: Sweep,
 ) -> Sweep
-    requires { ⌜ Checkable parts (partnerList partner) (state (now time) (now parent) (now stamp)) (w .stamp) ⌝ }
-    ensures { λ r. ⌜ Checked parts (partnerList partner) (w .raised) (w .stamp)
+    requires { ⌜ Checkable (partnerList partner) (state (now time) (now parent) (now stamp)) (w .stamp) ⌝ }
+    ensures { λ r. ⌜ Checked (partnerList partner) (w .raised) (w .stamp)
         (state (now (time .entry)) (now (parent .entry)) (now (stamp .entry)))
         (state (now (time .exit)) (now (parent .exit)) (now (stamp .exit))) (r .raised) (r .stamp) ⌝ }
 {
     match partner {
-        Partner::One(d) => check(parts, d, time, parent, stamp, w),
+        Partner::One(d) => check(d, time, parent, stamp, w),
         Partner::None => w,
     }
 }
@@ -44,15 +43,14 @@ pub fn check_partners(
     start: Start,
     total: usize,
     clocks: usize,
-    parts: u64,
     time: &mut [u64],
     parent: &mut [u64],
     stamp: &mut [u64],
     w: Sweep,
 ) -> Sweep
-    requires { ⌜ (total ≤ 1024) × (clocks ≤ 6) × Checkable parts (partnersFrom total (startsOf start) 1 clocks)
+    requires { ⌜ (total ≤ 1024) × (clocks ≤ 6) × Checkable (partnersFrom total (startsOf start) 1 clocks)
         (state (now time) (now parent) (now stamp)) (w .stamp) ⌝ }
-    ensures { λ r. ⌜ Checked parts (partnersFrom total (startsOf start) 1 clocks) (w .raised) (w .stamp)
+    ensures { λ r. ⌜ Checked (partnersFrom total (startsOf start) 1 clocks) (w .raised) (w .stamp)
         (state (now (time .entry)) (now (parent .entry)) (now (stamp .entry)))
         (state (now (time .exit)) (now (parent .exit)) (now (stamp .exit))) (r .raised) (r .stamp) ⌝ }
 {
@@ -63,7 +61,7 @@ pub fn check_partners(
     let mut clock: usize = 1;
     while clock <= clocks {
         let partner = partner_of(start, total, clock);
-        swept = check_partner(partner, parts, time, parent, stamp, swept);
+        swept = check_partner(partner, time, parent, stamp, swept);
         clock += 1;
     }
     swept
@@ -76,16 +74,15 @@ pub fn forth(
     steps: usize,
     clocks: usize,
     total: usize,
-    parts: u64,
     time: &mut [u64],
     parent: &mut [u64],
     stamp: &mut [u64],
     w: Sweep,
 ) -> Sweep
     requires { ⌜ Going (now low) (now far) steps clocks total
-        × Checkable parts (forthOf (now low) (now far) steps clocks total 0 total) (state (now time) (now parent) (now stamp))
+        × Checkable (forthOf (now low) (now far) steps clocks total 0 total) (state (now time) (now parent) (now stamp))
         (w .stamp) ⌝ }
-    ensures { λ r. ⌜ Checked parts (forthOf (now (low .entry)) (now (far .entry)) steps clocks total 0 total) (w .raised) (w .stamp)
+    ensures { λ r. ⌜ Checked (forthOf (now (low .entry)) (now (far .entry)) steps clocks total 0 total) (w .raised) (w .stamp)
         (state (now (time .entry)) (now (parent .entry)) (now (stamp .entry)))
         (state (now (time .exit)) (now (parent .exit)) (now (stamp .exit))) (r .raised) (r .stamp) ⌝ }
 {
@@ -93,7 +90,7 @@ pub fn forth(
     let mut i: usize = 0;
     let mut s: usize = 0;
     while i < total {
-        let ordered = check(parts, not_after(i + 1, i), time, parent, stamp, swept);
+        let ordered = check(not_after(i + 1, i), time, parent, stamp, swept);
         swept = check_side(
             false,
             low,
@@ -102,7 +99,6 @@ pub fn forth(
             total,
             s,
             i,
-            parts,
             time,
             parent,
             stamp,
@@ -121,16 +117,15 @@ pub fn back(
     steps: usize,
     clocks: usize,
     total: usize,
-    parts: u64,
     time: &mut [u64],
     parent: &mut [u64],
     stamp: &mut [u64],
     w: Sweep,
 ) -> Sweep
     requires { ⌜ Going (now up) (now far) steps clocks total × (total % steps ≡ 0)
-        × Checkable parts (backOf (now up) (now far) steps clocks total total) (state (now time) (now parent) (now stamp))
+        × Checkable (backOf (now up) (now far) steps clocks total total) (state (now time) (now parent) (now stamp))
         (w .stamp) ⌝ }
-    ensures { λ r. ⌜ Checked parts (backOf (now (up .entry)) (now (far .entry)) steps clocks total total) (w .raised) (w .stamp)
+    ensures { λ r. ⌜ Checked (backOf (now (up .entry)) (now (far .entry)) steps clocks total total) (w .raised) (w .stamp)
         (state (now (time .entry)) (now (parent .entry)) (now (stamp .entry)))
         (state (now (time .exit)) (now (parent .exit)) (now (stamp .exit))) (r .raised) (r .stamp) ⌝ }
 {
@@ -148,7 +143,6 @@ pub fn back(
             total,
             s,
             i,
-            parts,
             time,
             parent,
             stamp,
@@ -162,22 +156,21 @@ pub fn back(
 pub fn check_starts(
     total: usize,
     clocks: usize,
-    parts: u64,
     time: &mut [u64],
     parent: &mut [u64],
     stamp: &mut [u64],
     w: Sweep,
 ) -> Sweep
-    requires { ⌜ (total ≤ 1024) × (clocks ≤ 6) × Checkable parts (startDemands total anyStarts 1 clocks)
+    requires { ⌜ (total ≤ 1024) × (clocks ≤ 6) × Checkable (startDemands total anyStarts 1 clocks)
         (state (now time) (now parent) (now stamp)) (w .stamp) ⌝ }
-    ensures { λ r. ⌜ Checked parts (startDemands total anyStarts 1 clocks) (w .raised) (w .stamp)
+    ensures { λ r. ⌜ Checked (startDemands total anyStarts 1 clocks) (w .raised) (w .stamp)
         (state (now (time .entry)) (now (parent .entry)) (now (stamp .entry)))
         (state (now (time .exit)) (now (parent .exit)) (now (stamp .exit))) (r .raised) (r .stamp) ⌝ }
 {
     let mut swept = w;
     let mut j: usize = 1;
     while j <= clocks {
-        swept = check(parts, not_after(0, total + j), time, parent, stamp, swept);
+        swept = check(not_after(0, total + j), time, parent, stamp, swept);
         j += 1;
     }
     swept

@@ -6,7 +6,7 @@ use Rattle.bounding.proofs.bound_key.Statement.{statement}
 use Rattle.bounding.proofs.bound_key.Tie as tie
 
 returns : tie.Need-returns
-returns c = none-after _ _ (c .before .before .args .key) _ _ (c .if1 .taken) _
+returns c = none-after _ (c .before .before .args .key) _ _ (c .if1 .taken) _
 
 last-reset-requires : tie.Need-last-reset-requires
 last-reset-requires c κs = search needs
@@ -20,7 +20,7 @@ key-demand-requires c κs = search needs
 bound-requires : tie.Need-bound-requires
 bound-requires c κs =
     let s = c .before .before .before .before .before in
-    some-able _ (s .args .upper) (s .args .key) _ _ (omega (arith, c .before .before .before .if1 .left)) _ _ (c .before .before .last-reset .ensures)
+    some-able (s .args .upper) (s .args .key) _ _ (omega (arith, c .before .before .before .if1 .left)) _ _ (c .before .before .last-reset .ensures)
     (c .before .key-demand .ensures) _ (s .pre .3)
 
 same-length : tie.Need-same-length
@@ -29,7 +29,7 @@ same-length c = search needs
 returns-2 : tie.Need-returns-2
 returns-2 c =
     let s = c .before .before .before .before .before .before .before .before in
-    some-after _ (s .args .upper) (s .args .key) _ _ (omega (arith, c .before .before .before .before .before .before .if1 .left)) _ _ (c .before .before .before .before .before .last-reset .ensures)
+    some-after (s .args .upper) (s .args .key) _ _ (omega (arith, c .before .before .before .before .before .before .if1 .left)) _ _ (c .before .before .before .before .before .last-reset .ensures)
     (c .before .before .before .before .key-demand .ensures) _ _ (c .before .before .bound .ensures)
 
 pub bound-key-spec : {M : Type 1} → statement M

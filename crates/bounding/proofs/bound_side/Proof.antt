@@ -11,15 +11,15 @@ use Rattle.bounding.proofs.bound_side.Statement.{statement}
 use Rattle.bounding.proofs.bound_side.Tie as tie
 
 abbrev Inv-loop : tie.InvT-loop
-Inv-loop upper keys far clocks total s i parts late₀ low lowest₀ j₀ late lowest j =
-    Turn parts (sideOf upper keys far total s i 1 clocks) (bounds late₀ low) (sideFrom upper keys far total clocks s i j)
+Inv-loop upper keys far clocks total s i late₀ low lowest₀ j₀ late lowest j =
+    Turn (sideOf upper keys far total s i 1 clocks) (bounds late₀ low) (sideFrom upper keys far total clocks s i j)
     (bounds late lowest)
 
 abbrev μ-loop : tie.MeasureT-loop
-μ-loop upper keys far clocks total s i parts late₀ low lowest₀ j₀ late lowest j = clocks + 1 - j
+μ-loop upper keys far clocks total s i late₀ low lowest₀ j₀ late lowest j = clocks + 1 - j
 
 loop-holds : tie.Need-loop-holds Inv-loop μ-loop
-loop-holds c = side-first _ _ _ _ _ _ _ _ _ (c .before .before .before .pre .1)
+loop-holds c = side-first _ _ _ _ _ _ _ _ (c .before .before .before .pre .1)
 
 mul-at : tie.Need-mul-at Inv-loop μ-loop
 mul-at c = search needs
@@ -44,7 +44,7 @@ bound-key-requires c κs =
     let l = c .before .before .before .before .loop in
     let t = c .before .before .before .loop-test .taken in
     let p = c .before .before .before .before .before .before .before .before .pre .0 in
-    (p .few, p .past, omega (arith, t, p .clocks), side-able _ _ _ _ _ _ _ _ _ (l .j) _ (l .inv) (omega (arith, t)))
+    (p .few, p .past, omega (arith, t, p .clocks), side-able _ _ _ _ _ _ _ _ (l .j) _ (l .inv) (omega (arith, t)))
 
 add-j : tie.Need-add-j Inv-loop μ-loop
 add-j c = search needs
@@ -55,13 +55,13 @@ loop-less c = search needs
 loop-again : tie.Need-loop-again Inv-loop μ-loop
 loop-again c =
     let l = c .before .before .before .before .before .before .before .loop in
-    side-next _ _ _ _ _ _ _ _ _ (l .j) _ (l .inv) (omega (arith, c .before .before .before .before .before .before .loop-test .taken)) _ (c .before .before .bound-key .ensures)
+    side-next _ _ _ _ _ _ _ _ (l .j) _ (l .inv) (omega (arith, c .before .before .before .before .before .before .loop-test .taken)) _ (c .before .before .bound-key .ensures)
 
 same-length : tie.Need-same-length Inv-loop μ-loop
 same-length c = c .before .loop .inv .size
 
 returns : tie.Need-returns Inv-loop μ-loop
-returns c = side-last _ _ _ _ _ _ _ _ _ _ _ (c .before .loop .inv) (omega (arith, c .loop-test .left))
+returns c = side-last _ _ _ _ _ _ _ _ _ _ (c .before .loop .inv) (omega (arith, c .loop-test .left))
 
 pub bound-side-spec : {M : Type 1} → statement M
 bound-side-spec =

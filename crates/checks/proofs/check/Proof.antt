@@ -1,7 +1,7 @@
--- The product and the sum are the gain and the loss of the demand in parts.
+-- The sum is the gain of the demand.
 use mathlib.Core.Path.{_≡_, refl}
 use mathlib.Core.Bool.{Bool}
-use Prim.Native.Nat.{ℕ, _+_, _*_}
+use Prim.Native.Nat.{ℕ, _+_}
 use borrow.Author.Needs.{needs}
 use Rattle.runs.specs.declared.Demand.{Demand}
 use Rattle.runs.specs.Parts.{bit}
@@ -9,46 +9,37 @@ use Rattle.paths.specs.Constraint.{constraint}
 use Rattle.paths.specs.State.{State}
 use Rattle.paths.specs.Bounds.{Relaxable}
 use Rattle.paths.specs.Code.{Check}
-use Rattle.checks.specs.InParts.{inParts}
+use Rattle.checks.specs.InParts.{edge}
 use Rattle.checks.specs.Checks.{one-slight, one-relaxable, checked-one}
 use Rattle.checks.proofs.check.Statement.{statement}
 use Rattle.checks.proofs.check.Tie as tie
-
-mul-gain : tie.Need-mul-gain
-mul-gain c =
-    let k = one-slight _ _ _ _ (c .before .before .before .before .pre) in search needs
 
 bit-of-requires : tie.Need-bit-of-requires
 bit-of-requires c κs = search needs
 
 add-gain : tie.Need-add-gain
 add-gain c =
-    let k = one-slight _ _ _ _ (c .before .before .before .before .before .pre) in search needs
-
-mul-loss : tie.Need-mul-loss
-mul-loss c =
-    let k = one-slight _ _ _ _ (c .before .before .before .before .before .before .pre) in search needs
+    let k = one-slight _ _ _ (c .before .before .before .before .before .pre) in search needs
 
 -- the gain is that of the demand
-asked : (parts : ℕ) (d : Demand) (b : ℕ) (s : State) → b ≡ bit (d .strict) → Relaxable (inParts parts d) s
-    → Relaxable (constraint (d .from) (d .to) (d .down * parts + b) (d .up * parts)) s
-asked parts d b s e h = rw e h
+asked : (d : Demand) (b : ℕ) (s : State) → b ≡ bit (d .strict) → Relaxable (edge d) s
+    → Relaxable (constraint (d .from) (d .to) (d .down + b) (d .up)) s
+asked d b s e h = rw e h
 
-given : (parts : ℕ) (d : Demand) (b q : ℕ) (s s′ : State) (r : Bool) → b ≡ bit (d .strict)
-    → Check (constraint (d .from) (d .to) (d .down * parts + b) (d .up * parts)) q s s′ r → Check (inParts parts d) q
-    s s′ r
-given parts d b q s s′ r e h = rw e at h
+given : (d : Demand) (b q : ℕ) (s s′ : State) (r : Bool) → b ≡ bit (d .strict)
+    → Check (constraint (d .from) (d .to) (d .down + b) (d .up)) q s s′ r → Check (edge d) q s s′ r
+given d b q s s′ r e h = rw e at h
 
 relax-requires : tie.Need-relax-requires
 relax-requires c κs =
-    let s = c .before .before .before .before .before .before .before .before .before in
-    asked _ (s .args .d) _ _ (c .before .before .before .before .bit-of .ensures) (one-relaxable _ _ _ _ (s .pre))
+    let s = c .before .before .before .before .before .before .before .before in
+    asked (s .args .d) _ _ (c .before .before .before .before .bit-of .ensures) (one-relaxable _ _ _ (s .pre))
 
 either-requires : tie.Need-either-requires
 either-requires c κs = search needs
 
-add-t10 : tie.Need-add-t10
-add-t10 c = search needs
+add-t8 : tie.Need-add-t8
+add-t8 c = search needs
 
 same-length : tie.Need-same-length
 same-length c = search needs
@@ -63,21 +54,19 @@ returns : tie.Need-returns
 returns c =
     let r = c .before .before .before .before .before .before .before .before in
     let b = r .before .before .before .before .before in
-    let d = b .before .before .before .before .before .args .d in
-    checked-one _ d _ _ _ _ _ _ _ (given _ d _ _ _ _ _ (b .bit-of .ensures) (r .relax .ensures)) (c .before .either .ensures)
+    let d = b .before .before .before .before .args .d in
+    checked-one d _ _ _ _ _ _ _ (given d _ _ _ _ _ (b .bit-of .ensures) (r .relax .ensures)) (c .before .either .ensures)
     refl
 
 pub check-spec : {M : Type 1} → statement M
 check-spec =
     tie.close
     (tie.spec
-    mul-gain
     bit-of-requires
     add-gain
-    mul-loss
     relax-requires
     either-requires
-    add-t10
+    add-t8
     same-length
     same-length-2
     same-length-3

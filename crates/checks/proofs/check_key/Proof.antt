@@ -6,7 +6,7 @@ use Rattle.checks.proofs.check_key.Statement.{statement}
 use Rattle.checks.proofs.check_key.Tie as tie
 
 returns : tie.Need-returns
-returns c = none-checked _ _ (c .before .before .before .before .args .key) _ _ (c .if1 .taken) _ _ _
+returns c = none-checked _ (c .before .before .before .before .args .key) _ _ (c .if1 .taken) _ _ _
 
 last-reset-requires : tie.Need-last-reset-requires
 last-reset-requires c κs = search needs
@@ -20,7 +20,7 @@ key-demand-requires c κs = search needs
 check-requires : tie.Need-check-requires
 check-requires c κs =
     let s = c .before .before .before .before .before .before .before .before .before in
-    some-able _ (s .args .upper) (s .args .key) _ _ (omega (arith, c .before .before .before .before .before .if1 .left)) _ _ (c .before .before .before .before .last-reset .ensures)
+    some-able (s .args .upper) (s .args .key) _ _ (omega (arith, c .before .before .before .before .before .if1 .left)) _ _ (c .before .before .before .before .last-reset .ensures)
     (c .before .before .before .key-demand .ensures) _ _ (s .pre .3)
 
 same-length : tie.Need-same-length
@@ -35,7 +35,7 @@ same-length-3 c = search needs
 returns-2 : tie.Need-returns-2
 returns-2 c =
     let s = c .before .before .before .before .before .before .before .before .before .before .before .before .before .before .before .before in
-    some-checked _ (s .args .upper) (s .args .key) _ _ (omega (arith, c .before .before .before .before .before .before .before .before .before .before .before .before .if1 .left)) _ _ (c .before .before .before .before .before .before .before .before .before .before .before .last-reset .ensures)
+    some-checked (s .args .upper) (s .args .key) _ _ (omega (arith, c .before .before .before .before .before .before .before .before .before .before .before .before .if1 .left)) _ _ (c .before .before .before .before .before .before .before .before .before .before .before .last-reset .ensures)
     (c .before .before .before .before .before .before .before .before .before .before .key-demand .ensures) _ _ _ _ _ _ (c .before .before .before .before .before .before .check .ensures)
 
 pub check-key-spec : {M : Type 1} → statement M

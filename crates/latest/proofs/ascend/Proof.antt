@@ -9,15 +9,15 @@ use Rattle.latest.proofs.ascend.Statement.{statement}
 use Rattle.latest.proofs.ascend.Tie as tie
 
 abbrev Inv-loop : tie.InvT-loop
-Inv-loop low up far steps clocks total parts left late₀ way₀ i₀ s₀ late way i s =
-    Ascending parts low up far steps clocks total late₀ late i s (way .hit)
+Inv-loop low up far steps clocks total left late₀ way₀ i₀ s₀ late way i s =
+    Ascending low up far steps clocks total late₀ late i s (way .hit)
 
 abbrev μ-loop : tie.MeasureT-loop
-μ-loop low up far steps clocks total parts left late₀ way₀ i₀ s₀ late way i s =
+μ-loop low up far steps clocks total left late₀ way₀ i₀ s₀ late way i s =
     outcome.total late * (total + 2) + (total + 1 - i)
 
 loop-holds : tie.Need-loop-holds Inv-loop μ-loop
-loop-holds c = let p = c .before .before .before .before .pre in ascending-first _ _ _ _ _ _ _ _ (p .2) (sym (mod-eq-of-lt (p .0 .some)))
+loop-holds c = let p = c .before .before .before .before .pre in ascending-first _ _ _ _ _ _ _ (p .2) (sym (mod-eq-of-lt (p .0 .some)))
 
 ascend-step-requires : tie.Need-ascend-step-requires Inv-loop μ-loop
 ascend-step-requires c κs =
@@ -34,18 +34,18 @@ step-of-requires c κs =
 loop-less : tie.Need-loop-less Inv-loop μ-loop
 loop-less c =
     let l = c .before .before .before .before .before .before .loop in
-    ascending-less _ _ _ _ _ _ _ _ _ (l .i) _ _ (l .inv) (c .before .before .before .before .before .loop-test .taken) _ _ _ (c .before .before .before .ascend-step .ensures)
+    ascending-less _ _ _ _ _ _ _ _ (l .i) _ _ (l .inv) (c .before .before .before .before .before .loop-test .taken) _ _ _ (c .before .before .before .ascend-step .ensures)
 
 loop-again : tie.Need-loop-again Inv-loop μ-loop
 loop-again c =
     let l = c .before .before .before .before .before .before .loop in
-    ascending-next _ _ _ _ _ _ _ _ _ (l .i) _ _ (l .inv) _ _ _ (c .before .before .before .ascend-step .ensures) _ (c .step-of .ensures)
+    ascending-next _ _ _ _ _ _ _ _ (l .i) _ _ (l .inv) _ _ _ (c .before .before .before .ascend-step .ensures) _ (c .step-of .ensures)
 
 same-length : tie.Need-same-length Inv-loop μ-loop
 same-length c = c .before .loop .inv .falling .size
 
 returns : tie.Need-returns Inv-loop μ-loop
-returns c = ascending-last _ _ _ _ _ _ _ _ _ _ _ _ (c .before .loop .inv) (omega (arith, c .loop-test .left))
+returns c = ascending-last _ _ _ _ _ _ _ _ _ _ _ (c .before .loop .inv) (omega (arith, c .loop-test .left))
 
 pub ascend-spec : {M : Type 1} → statement M
 ascend-spec =

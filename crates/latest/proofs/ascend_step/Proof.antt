@@ -14,10 +14,10 @@ use Rattle.latest.proofs.ascend_step.Tie as tie
 bound-side-requires : tie.Need-bound-side-requires
 bound-side-requires c κs =
     let b = c .before .before .before .before .before in
-    (going-placed _ _ _ _ _ _ _ (b .pre .1) (b .pre .3) (b .pre .2), upper-able _ _ _ _ _ _ _ (b .args .i) (b .args .s) (b .pre .2) (b .pre .3) (b .args .hit) _ (b .pre .4))
+    (going-placed _ _ _ _ _ _ _ (b .pre .1) (b .pre .3) (b .pre .2), upper-able _ _ _ _ _ _ (b .args .i) (b .args .s) (b .pre .2) (b .pre .3) (b .args .hit) _ (b .pre .4))
 
-add-t19 : tie.Need-add-t19
-add-t19 c = search needs
+add-t18 : tie.Need-add-t18
+add-t18 c = search needs
 
 same-length : tie.Need-same-length
 same-length c = search needs
@@ -25,10 +25,10 @@ same-length c = search needs
 returns : tie.Need-returns
 returns c =
     let b = c .before .before .before .before .before .before .before .before .before in
-    stepped-quiet _ _ _ _ _ _ _ (b .args .i) (b .args .s) (b .pre .2) (b .pre .3) (b .args .hit) _ (b .pre .4) _ _ _ (b .pre .4 .few) (c .before .before .before .bound-side .ensures) (c .if1 .taken)
+    stepped-quiet _ _ _ _ _ _ (b .args .i) (b .args .s) (b .pre .2) (b .pre .3) (b .args .hit) _ (b .pre .4) _ _ _ (b .pre .4 .few) (c .before .before .before .bound-side .ensures) (c .if1 .taken)
 
-add-t20 : tie.Need-add-t20
-add-t20 c = search needs
+add-t19 : tie.Need-add-t19
+add-t19 c = search needs
 
 same-length-2 : tie.Need-same-length-2
 same-length-2 c = search needs
@@ -36,7 +36,7 @@ same-length-2 c = search needs
 returns-2 : tie.Need-returns-2
 returns-2 c =
     let b = c .before .before .before .before .before .before .before .before .before .before in
-    stepped-hit _ _ _ _ _ _ _ (b .args .i) (b .args .s) (b .pre .2) (b .pre .3) (b .args .hit) _ (b .pre .4) _ _ _ (b .pre .4 .few) (c .before .before .before .before .bound-side .ensures) (omega (arith, c .before .if1 .left))
+    stepped-hit _ _ _ _ _ _ (b .args .i) (b .args .s) (b .pre .2) (b .pre .3) (b .args .hit) _ (b .pre .4) _ _ _ (b .pre .4 .few) (c .before .before .before .before .bound-side .ensures) (omega (arith, c .before .if1 .left))
 
 following-requires : tie.Need-following-requires
 following-requires c κs = let b = c .before .before .before .before .before .before .before .before .before .before in going-placed _ _ _ _ _ _ _ (b .pre .1) (b .pre .3) (b .pre .2) .step
@@ -56,7 +56,7 @@ descend-requires c κs =
           ∙ ap (λ n. followingOf n (b .args .steps)) (b .pre .3)
           ∙ following-mod (b .args .i) (b .args .steps) (b .pre .0 .some)
           ∙ ap (λ n. n % b .args .steps) (sym (add-one (b .args .i))),
-      back-able _ _ _ _ _ _ _ (b .args .i) (b .args .s) (b .pre .2) (b .pre .3) (b .args .hit) _ (b .pre .4) _ _ _ (b .pre .4 .few) (c .before .before .before .before .before .before .bound-side .ensures),
+      back-able _ _ _ _ _ _ (b .args .i) (b .args .s) (b .pre .2) (b .pre .3) (b .args .hit) _ (b .pre .4) _ _ _ (b .pre .4 .few) (c .before .before .before .before .before .before .bound-side .ensures),
     )
 
 add-less : tie.Need-add-less
@@ -74,17 +74,17 @@ same-length-3 c = search needs
 returns-3 : tie.Need-returns-3
 returns-3 c =
     let b = c .before .before .before .before .before .before .before .before .before .before .before .before .before .before .before .before in
-    stepped-mended _ _ _ _ _ _ _ (b .args .i) (b .args .s) (b .pre .2) (b .pre .3) (b .args .hit) _ (b .pre .4) _ _ _ (b .pre .4 .few) (c .before .before .before .before .before .before .before .before .before .before .bound-side .ensures) (omega (arith, c .before .before .before .before .before .before .before .if1 .left)) _ _ _ (c .before .before .before .descend .ensures)
+    stepped-mended _ _ _ _ _ _ (b .args .i) (b .args .s) (b .pre .2) (b .pre .3) (b .args .hit) _ (b .pre .4) _ _ _ (b .pre .4 .few) (c .before .before .before .before .before .before .before .before .before .before .bound-side .ensures) (omega (arith, c .before .before .before .before .before .before .before .if1 .left)) _ _ _ (c .before .before .before .descend .ensures)
 
 pub ascend-step-spec : {M : Type 1} → statement M
 ascend-step-spec =
     tie.close
     (tie.spec
     bound-side-requires
-    add-t19
+    add-t18
     same-length
     returns
-    add-t20
+    add-t19
     same-length-2
     returns-2
     following-requires

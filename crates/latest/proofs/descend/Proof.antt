@@ -9,20 +9,20 @@ use Rattle.latest.proofs.descend.Statement.{statement}
 use Rattle.latest.proofs.descend.Tie as tie
 
 abbrev Inv-loop : tie.InvT-loop
-Inv-loop low far steps clocks total parts from first floor late₀ i₀ s₀ lowest₀ late i s lowest =
-    Descending parts low far steps clocks total from floor late₀ late i s lowest
+Inv-loop low far steps clocks total from first floor late₀ i₀ s₀ lowest₀ late i s lowest =
+    Descending low far steps clocks total from floor late₀ late i s lowest
 
 abbrev μ-loop : tie.MeasureT-loop
-μ-loop low far steps clocks total parts from first floor late₀ i₀ s₀ lowest₀ late i s lowest = i
+μ-loop low far steps clocks total from first floor late₀ i₀ s₀ lowest₀ late i s lowest = i
 
 loop-holds : tie.Need-loop-holds Inv-loop μ-loop
-loop-holds c = let p = c .before .before .before .pre in descending-first _ _ _ _ _ _ _ _ _ _ (p .3) (p .2)
+loop-holds c = let p = c .before .before .before .pre in descending-first _ _ _ _ _ _ _ _ _ (p .3) (p .2)
 
 same-length : tie.Need-same-length Inv-loop μ-loop
 same-length c = c .before .before .loop .inv .falling .size
 
 returns : tie.Need-returns Inv-loop μ-loop
-returns c = descending-done _ _ _ _ _ _ _ _ _ _ _ _ _ (c .before .before .loop .inv) (c .if1 .taken)
+returns c = descending-done _ _ _ _ _ _ _ _ _ _ _ _ (c .before .before .loop .inv) (c .if1 .taken)
 
 preceding-requires : tie.Need-preceding-requires Inv-loop μ-loop
 preceding-requires c κs = c .before .before .before .before .before .before .pre .0 .some
@@ -43,7 +43,7 @@ bound-requires c κs =
     let p = c .before .before .before .before .before .before .before .before .before .pre in
     let t = c .before .before .before .before .loop-test .taken in
     let e = step-back (l .i) _ _ _ (p .0 .some) (omega (arith, t)) (l .inv .step) (c .before .before .preceding .ensures) in
-    order-able _ _ _ _ _ _ _ _ _ _ (l .i) _ _ (l .inv) (p .1) _ (omega (arith, t)) _ e _ (c .before .not-after .ensures)
+    order-able _ _ _ _ _ _ _ _ _ (l .i) _ _ (l .inv) (p .1) _ (omega (arith, t)) _ e _ (c .before .not-after .ensures)
 
 bound-side-requires : tie.Need-bound-side-requires Inv-loop μ-loop
 bound-side-requires c κs =
@@ -53,7 +53,7 @@ bound-side-requires c κs =
     let t = c .before .before .before .before .before .before .before .before .loop-test .taken in
     let e = step-back (l .i) _ _ _ (p .0 .some) (omega (arith, t)) (l .inv .step) (c .before .before .before .before .before .before .preceding .ensures) in (
       going-placed _ _ _ _ _ _ _ (p .0) e (omega (arith, t, l .inv .inside, p .1)),
-      lower-able _ _ _ _ _ _ _ _ _ _ (l .i) _ _ (l .inv) (p .1) _ (omega (arith, t)) _ e _ (c .before .before .before .before .before .not-after .ensures) _ _ (c .before .before .before .bound .ensures),
+      lower-able _ _ _ _ _ _ _ _ _ (l .i) _ _ (l .inv) (p .1) _ (omega (arith, t)) _ e _ (c .before .before .before .before .before .not-after .ensures) _ _ (c .before .before .before .bound .ensures),
     )
 
 loop-less : tie.Need-loop-less Inv-loop μ-loop
@@ -66,14 +66,14 @@ loop-again c =
     let p = c .before .before .before .before .before .before .before .before .before .before .before .before .before .before .before .before .pre in
     let t = c .before .before .before .before .before .before .before .before .before .before .before .loop-test .taken in
     let e = step-back (l .i) _ _ _ (p .0 .some) (omega (arith, t)) (l .inv .step) (c .before .before .before .before .before .before .before .before .before .preceding .ensures) in
-    descending-next _ _ _ _ _ _ _ _ _ _ (l .i) _ _ (l .inv) (p .1) _ (omega (arith, t)) _ e _ (c .before .before .before .before .before .before .before .before .not-after .ensures) _ _ (c .before .before .before .before .before .before .bound .ensures)
+    descending-next _ _ _ _ _ _ _ _ _ (l .i) _ _ (l .inv) (p .1) _ (omega (arith, t)) _ e _ (c .before .before .before .before .before .before .before .before .not-after .ensures) _ _ (c .before .before .before .before .before .before .bound .ensures)
     _ _ (c .before .before .bound-side .ensures)
 
 same-length-2 : tie.Need-same-length-2 Inv-loop μ-loop
 same-length-2 c = c .before .loop .inv .falling .size
 
 returns-2 : tie.Need-returns-2 Inv-loop μ-loop
-returns-2 c = descending-last _ _ _ _ _ _ _ _ _ _ _ _ _ (c .before .loop .inv) (omega (arith, c .loop-test .left))
+returns-2 c = descending-last _ _ _ _ _ _ _ _ _ _ _ _ (c .before .loop .inv) (omega (arith, c .loop-test .left))
 
 pub descend-spec : {M : Type 1} → statement M
 descend-spec =

@@ -1,7 +1,7 @@
 -- The rows are those of the table, and what solving them finds is the answer.
 use mathlib.Core.Path.{refl}
 use borrow.Author.Needs.{needs}
-use native.Mathlib.Omega.{arith}
+use Rattle.plan.specs.Rows.{scaled-numbers, Computed, rows-computed}
 use Rattle.plan.specs.Found.{rows-ready, rows-answered}
 use Rattle.plan.proofs.plan_rounds.Statement.{statement}
 use Rattle.plan.proofs.plan_rounds.Tie as tie
@@ -9,11 +9,22 @@ use Rattle.plan.proofs.plan_rounds.Tie as tie
 mul-total : tie.Need-mul-total
 mul-total c = search needs
 
+add-parts : tie.Need-add-parts
+add-parts c = search needs
+
+add-parts-2 : tie.Need-add-parts-2
+add-parts-2 c = search needs
+
+scaled-requires : tie.Need-scaled-requires
+scaled-requires c κs = search needs
+
 keys-requires : tie.Need-keys-requires
-keys-requires c κs = search needs
+keys-requires c κs =
+    let s = c .before .before .before .before .before .before .before in (s .pre .0 .good, scaled-numbers _ _ (s .pre .0) _ refl _ (c .before .scaled .ensures))
 
 keys-requires-2 : tie.Need-keys-requires-2
-keys-requires-2 c κs = search needs
+keys-requires-2 c κs =
+    let s = c .before .before .before .before .before .before .before .before .before in (s .pre .0 .good, scaled-numbers _ _ (s .pre .0) _ refl _ (c .before .before .before .scaled .ensures))
 
 distances-requires : tie.Need-distances-requires
 distances-requires c κs = search needs
@@ -27,16 +38,21 @@ slice-aggregate-solve-here-2 c = search needs
 slice-aggregate-solve-here-3 : tie.Need-slice-aggregate-solve-here-3
 slice-aggregate-solve-here-3 c = search needs
 
+-- the rows are those of the table
+abbrev entry : tie.After-distances → tie.Start
+entry d = d .before .before .before .before .before .before .before .before .before .before .before
+
+rows : (d : tie.After-distances)
+    → Computed (entry d .args .t) (entry d .args .k) (d .before .before .before .keys .result) (d .before .keys2 .result) (d .distances .result)
+rows d =
+    rows-computed _ _ (entry d .pre .0) _ refl _ (d .before .before .before .before .before .scaled .ensures) _ _ _ (d .before .before .before .keys .ensures)
+    (d .before .keys2 .ensures) (d .distances .ensures)
+
 solve-here-requires : tie.Need-solve-here-requires
 solve-here-requires c κs =
-    let s = c .before .before .before .before .before .before .before .before .before .before .before .before .before in
-    rows-ready _ _ _ (s .pre .0) _ _ _ (c .before .before .before .before .before .before .before .before .keys .ensures) (c .before .before .before .before .before .before .before .keys2 .ensures) (c .before .before .before .before .before .before .distances .ensures) _ _ _ (s .pre .1)
-
-add-told : tie.Need-add-told
-add-told c = let z = c .before .before .before .before .before .before .before .before .before .before .before .before .before .before .before .before .before .before .before .before .before .pre .0 in omega (arith, z .few, z .good .clocks-few)
-
-add-told-2 : tie.Need-add-told-2
-add-told-2 c = let z = c .before .before .before .before .before .before .before .before .before .before .before .before .before .before .before .before .before .before .before .before .before .pre .0 in omega (arith, z .few, z .good .clocks-few)
+    let d = c .before .before .before .before .before .before in
+    let s = entry d in
+    rows-ready _ _ _ (s .pre .0) _ _ _ (rows d) _ _ _ (s .pre .1)
 
 told-requires : tie.Need-told-requires
 told-requires c κs = search needs
@@ -52,16 +68,20 @@ same-length-3 c = search needs
 
 returns : tie.Need-returns
 returns c =
-    let h = c .before .before .before .before .before .before .before .before in
-    let s = c .before .before .before .before .before .before .before .before .before .before .before .before .before .before .before .before .before .before .before .before .before .before in
-    rows-answered _ _ _ (s .pre .0) _ _ _ (c .before .before .before .before .before .before .before .before .before .before .before .before .before .before .before .before .before .keys .ensures) (c .before .before .before .before .before .before .before .before .before .before .before .before .before .before .before .before .keys2 .ensures) (c .before .before .before .before .before .before .before .before .before .before .before .before .before .before .before .distances .ensures) _ _ _ (s .pre .1)
-    _ _ _ (h .solve-here .result) _ _ (h .solve-here .ensures) refl (c .told .ensures)
+    let h = c .before .before .before .before .before .before .before in
+    let d = h .before .before .before .before .before .before .before in
+    let s = entry d in
+    rows-answered _ _ _ (s .pre .0) _ _ _ (rows d) _ _ _ (s .pre .1) _ _ _ (h .solve-here .result) _ _ (h .solve-here .ensures) refl
+    (c .told .ensures)
 
 pub plan-rounds-spec : {M : Type 1} → statement M
 plan-rounds-spec =
     tie.close
     (tie.spec
     mul-total
+    add-parts
+    add-parts-2
+    scaled-requires
     keys-requires
     keys-requires-2
     distances-requires
@@ -69,8 +89,6 @@ plan-rounds-spec =
     slice-aggregate-solve-here-2
     slice-aggregate-solve-here-3
     solve-here-requires
-    add-told
-    add-told-2
     told-requires
     same-length
     same-length-2

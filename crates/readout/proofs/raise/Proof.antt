@@ -6,14 +6,14 @@ use Rattle.readout.proofs.raise.Statement.{statement}
 use Rattle.readout.proofs.raise.Tie as tie
 
 returns : tie.Need-returns
-returns c = raise-none _ _ _ _ (c .before .before .args .key) _ _ _ (c .if1 .taken)
+returns c = raise-none _ _ _ (c .before .before .args .key) _ _ _ (c .if1 .taken)
 
 last-reset-requires : tie.Need-last-reset-requires
 last-reset-requires c κs = search needs
 
 returns-2 : tie.Need-returns-2
 returns-2 c =
-    raise-reset _ _ _ _ (c .before .before .before .before .args .key) _ _ _ (c .before .before .before .before .pre .some) (omega (arith, c .before .last-reset .ensures, c .if2 .taken))
+    raise-reset _ _ _ (c .before .before .before .before .args .key) _ _ _ (c .before .before .before .before .pre .some) (omega (arith, c .before .last-reset .ensures, c .if2 .taken))
 
 add-lower-demand : tie.Need-add-lower-demand
 add-lower-demand c = search needs
@@ -21,15 +21,12 @@ add-lower-demand c = search needs
 lower-demand-requires : tie.Need-lower-demand-requires
 lower-demand-requires c κs = search needs
 
-mul-gain : tie.Need-mul-gain
-mul-gain c = omega (arith, lower-gain _ _ _ _ _ (c .before .lower-demand .ensures) (c .before .before .before .before .before .before .pre .parts))
-
 bit-of-requires : tie.Need-bit-of-requires
 bit-of-requires c κs = search needs
 
 add-gain : tie.Need-add-gain
 add-gain c =
-    omega (arith, c .bit-of .ensures, lower-gain _ _ _ _ _ (c .before .before .lower-demand .ensures) (c .before .before .before .before .before .before .before .pre .parts))
+    omega (arith, c .before .bit-of .ensures, lower-gain _ _ _ _ (c .before .before .lower-demand .ensures))
 
 shared-slice-read-over : tie.Need-shared-slice-read-over
 shared-slice-read-over c = search needs
@@ -38,9 +35,9 @@ add-over : tie.Need-add-over
 add-over c =
     omega (
       arith,
-      c .before .bit-of .ensures,
+      c .before .before .bit-of .ensures,
       c .before .before .before .before .before .before .before .before .pre .now,
-      lower-gain _ _ _ _ _ (c .before .before .before .lower-demand .ensures) (c .before .before .before .before .before .before .before .before .pre .parts),
+      lower-gain _ _ _ _ (c .before .before .before .lower-demand .ensures),
     )
 
 add-over-2 : tie.Need-add-over-2
@@ -61,9 +58,9 @@ larger-requires c κs = search needs
 returns-3 : tie.Need-returns-3
 returns-3 c =
     let s = c .before .before .before .before .before .before .before .before .before .before .before in
-    raise-some _ _ _ _ (s .args .key) (s .args .distance) (s .args .i) _ _ _ _ _ _ (omega (arith, c .before .before .before .before .before .before .before .before .before .if1 .left))
+    raise-some _ _ _ (s .args .key) (s .args .distance) (s .args .i) _ _ _ _ _ _ (omega (arith, c .before .before .before .before .before .before .before .before .before .if1 .left))
     (c .before .before .before .before .before .before .before .before .last-reset .ensures) (omega (arith, c .before .before .before .before .before .before .before .if2 .left)) (omega (arith, s .pre .step)) (c .before .before .before .before .before .before .lower-demand .ensures)
-    (c .before .before .before .before .bit-of .ensures) (c .before .over .ensures) (c .larger .ensures)
+    (c .before .before .before .before .before .bit-of .ensures) (c .before .over .ensures) (c .larger .ensures)
 
 pub raise-spec : {M : Type 1} → statement M
 raise-spec =
@@ -74,7 +71,6 @@ raise-spec =
     returns-2
     add-lower-demand
     lower-demand-requires
-    mul-gain
     bit-of-requires
     add-gain
     shared-slice-read-over

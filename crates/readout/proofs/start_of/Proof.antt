@@ -15,14 +15,14 @@ use Rattle.readout.proofs.start_of.Statement.{statement}
 use Rattle.readout.proofs.start_of.Tie as tie
 
 abbrev Inv-loop : tie.InvT-loop
-Inv-loop low far steps clocks total parts j time start₀ i₀ s₀ start i s =
-    (raisedBy parts total (at time) j (forthOf low far steps clocks total i (total - i)) start
-    ≡ raisedBy parts total (at time) j (forthOf low far steps clocks total 0 total) 0)
+Inv-loop low far steps clocks total j time start₀ i₀ s₀ start i s =
+    (raisedBy total (at time) j (forthOf low far steps clocks total i (total - i)) start
+    ≡ raisedBy total (at time) j (forthOf low far steps clocks total 0 total) 0)
     × (s ≡ i % steps)
     × (s < 16)
 
 abbrev μ-loop : tie.MeasureT-loop
-μ-loop low far steps clocks total parts j time start₀ i₀ s₀ start i s = total - i
+μ-loop low far steps clocks total j time start₀ i₀ s₀ start i s = total - i
 
 -- where it began
 abbrev entry : tie.At-loop Inv-loop μ-loop → tie.Start Inv-loop μ-loop
@@ -30,7 +30,7 @@ entry c = c .before .before .before .before
 
 loop-holds : tie.Need-loop-holds Inv-loop μ-loop
 loop-holds c =
-    let p = c .before .before .before .pre in (starting-first _ _ _ _ _ _ _ _ p, sym (mod-eq-of-lt (p .steps-some)), omega arith)
+    let p = c .before .before .before .pre in (starting-first _ _ _ _ _ _ _ p, sym (mod-eq-of-lt (p .steps-some)), omega arith)
 
 mul-at : tie.Need-mul-at Inv-loop μ-loop
 mul-at c = search needs
@@ -53,7 +53,7 @@ shared-slice-read-raise-2 c = search needs
 raise-requires : tie.Need-raise-requires Inv-loop μ-loop
 raise-requires c κs =
     let h = c .before .before .before in
-    starting-raisable _ _ _ _ _ _ _ _ (entry h .pre) (h .loop .i) _ (h .loop .start) (h .loop .inv .1) (c .before .before .loop-test .taken)
+    starting-raisable _ _ _ _ _ _ _ (entry h .pre) (h .loop .i) _ (h .loop .start) (h .loop .inv .1) (c .before .before .loop-test .taken)
 
 following-requires : tie.Need-following-requires Inv-loop μ-loop
 following-requires c κs = c .before .before .before .before .loop .inv .2
@@ -74,14 +74,14 @@ loop-again c =
     ∙ ap (λ n. followingOf n (s .args .steps)) (l .inv .1)
     ∙ following-mod (l .i) (s .args .steps) (s .pre .steps-some)
     ∙ ap (λ n. n % s .args .steps) (sym (add-one (l .i))) in (
-      starting-next _ _ _ _ _ _ _ _ (s .pre) (l .i) _ _ (l .inv .1) (c .before .before .before .before .loop-test .taken) _ (c .before .raise .ensures) (l .inv .0),
+      starting-next _ _ _ _ _ _ _ (s .pre) (l .i) _ _ (l .inv .1) (c .before .before .before .before .loop-test .taken) _ (c .before .raise .ensures) (l .inv .0),
       e,
-      starting-step _ _ _ _ _ _ _ _ (s .pre) _ _ e,
+      starting-step _ _ _ _ _ _ _ (s .pre) _ _ e,
     )
 
 returns : tie.Need-returns Inv-loop μ-loop
 returns c =
-    let h = c .before in starting-last _ _ _ _ _ _ _ _ (entry h .pre) (h .loop .i) _ (omega (arith, c .loop-test .left)) (h .loop .inv .0)
+    let h = c .before in starting-last _ _ _ _ _ _ _ (entry h .pre) (h .loop .i) _ (omega (arith, c .loop-test .left)) (h .loop .inv .0)
 
 pub start-of-spec : {M : Type 1} → statement M
 start-of-spec =

@@ -10,17 +10,11 @@ use Rattle.readout.proofs.write_starts.Statement.{statement}
 use Rattle.readout.proofs.write_starts.Tie as tie
 
 abbrev Inv-loop : tie.InvT-loop
-Inv-loop low far steps clocks total time starts₀ parts j₀ starts j =
+Inv-loop low far steps clocks total time starts₀ j₀ starts j =
     (j ≤ clocks) × (length starts ≡ length starts₀) × (starts ≡ written (startAt low far steps clocks total time) j starts₀)
 
 abbrev μ-loop : tie.MeasureT-loop
-μ-loop low far steps clocks total time starts₀ parts j₀ starts j = clocks - j
-
-add-parts : tie.Need-add-parts Inv-loop μ-loop
-add-parts c = search needs
-
-add-parts-2 : tie.Need-add-parts-2 Inv-loop μ-loop
-add-parts-2 c = search needs
+μ-loop low far steps clocks total time starts₀ j₀ starts j = clocks - j
 
 loop-holds : tie.Need-loop-holds Inv-loop μ-loop
 loop-holds c = (omega arith, refl, written-none _ _)
@@ -66,8 +60,6 @@ write-starts-spec =
     (tie.spec
     Inv-loop
     μ-loop
-    add-parts
-    add-parts-2
     loop-holds
     add-start-of
     start-of-requires

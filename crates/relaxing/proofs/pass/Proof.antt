@@ -1,6 +1,5 @@
 -- The partners, forth, then back, then the starts.
 use mathlib.Core.Path.{_∙_}
-use borrow.Author.Needs.{needs}
 use native.Mathlib.Omega.{arith}
 use Rattle.relaxing.specs.Rows.{going-low, going-up}
 use Rattle.relaxing.specs.Pass.{partners-able, forth-able, back-able, starts-able, pass-swept}
@@ -16,12 +15,6 @@ started c = c .before .before .before .before .before .before .before .before .b
 
 abbrev gone : tie.After-back → tie.After-forth
 gone c = c .before .before .before .before .before .before .before .before .before .before
-
-add-parts : tie.Need-add-parts
-add-parts c = search needs
-
-add-parts-2 : tie.Need-add-parts-2
-add-parts-2 c = search needs
 
 check-partners-requires : tie.Need-check-partners-requires
 check-partners-requires c κs =
@@ -88,8 +81,6 @@ pub pass-spec : {M : Type 1} → statement M
 pass-spec =
     tie.close
     (tie.spec
-    add-parts
-    add-parts-2
     check-partners-requires
     forth-requires
     back-requires

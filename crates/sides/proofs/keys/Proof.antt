@@ -4,6 +4,7 @@ use lib.ListN.{getD}
 use Rattle.table.specs.Step.{FairGuard}
 use Rattle.table.specs.declared.Guard.{Guard}
 use Rattle.table.specs.declared.Relation.the-variants.{Under}
+use Rattle.scaling.specs.Constants.{tableWith}
 use Rattle.sides.specs.Filled.{Filled, filled-first, guard-room, guard-here, filled-guard, filled-step, filled-last}
 use borrow.Author.Needs.{needs}
 use native.Mathlib.Omega.{arith}
@@ -11,16 +12,16 @@ use Rattle.sides.proofs.keys.Statement.{statement}
 use Rattle.sides.proofs.keys.Tie as tie
 
 abbrev Inv-loop : tie.InvT-loop
-Inv-loop upper t row₀ s₀ i₀ row s i = Filled upper t row s i
+Inv-loop constants upper t row₀ s₀ i₀ row s i = Filled upper (tableWith constants t) row s i
 
 abbrev μ-loop : tie.MeasureT-loop
-μ-loop upper t row₀ s₀ i₀ row s i = 80 - (s + i)
+μ-loop constants upper t row₀ s₀ i₀ row s i = 80 - (s + i)
 
 element-copy-out-i : tie.Need-element-copy-out-i Inv-loop μ-loop
 element-copy-out-i c = search needs
 
 loop-holds : tie.Need-loop-holds Inv-loop μ-loop
-loop-holds c = let s = c .before in filled-first (s .args .upper) (s .args .t1) (s .pre)
+loop-holds c = let s = c .before in filled-first (s .args .upper) (s .args .t1) (s .pre .0) (s .args .constants .now)
 
 add-if1 : tie.Need-add-if1 Inv-loop μ-loop
 add-if1 c = search needs
@@ -47,13 +48,13 @@ module _ (c : tie.Then1 Inv-loop μ-loop) where
 
   room : loop .loop .i < 64
   room =
-      guard-room (start .args .upper) (start .args .t1) (start .pre) _ (loop .loop .s) (loop .loop .i) (loop .loop .inv)
-      (c .before .before .loop-test .taken) inside unread
+      guard-room (start .args .upper) (start .args .t1) (start .pre .0) (start .args .constants .now) _
+      (loop .loop .s) (loop .loop .i) (loop .loop .inv) (c .before .before .loop-test .taken) inside unread
 
   fair : FairGuard (getD (start .args .t1 .guards) (loop .loop .i) unread)
   fair =
-      guard-here (start .args .upper) (start .args .t1) (start .pre) _ (loop .loop .s) (loop .loop .i) (loop .loop .inv)
-      (c .before .before .loop-test .taken) inside unread
+      guard-here (start .args .upper) (start .args .t1) (start .pre .0) (start .args .constants .now) _
+      (loop .loop .s) (loop .loop .i) (loop .loop .inv) (c .before .before .loop-test .taken) inside unread
 
 mul-g : tie.Need-mul-g Inv-loop μ-loop
 mul-g c = search needs
@@ -76,17 +77,25 @@ mul-smaller c = omega (arith, fair (c .before .before) .last)
 array-read-smaller : tie.Need-array-read-smaller Inv-loop μ-loop
 array-read-smaller c = omega (arith, fair (c .before .before) .last)
 
+mul-side-key : tie.Need-mul-side-key Inv-loop μ-loop
+mul-side-key c = search needs
+
+element-copy-out-side-key : tie.Need-element-copy-out-side-key Inv-loop μ-loop
+element-copy-out-side-key c = omega (arith, room (c .before .before), start (c .before .before) .pre .1 .size)
+
 side-key-requires : tie.Need-side-key-requires Inv-loop μ-loop
-side-key-requires c κs = fair (c .before .before) .small
+side-key-requires c κs =
+    let p = c .before .before .before in
+    start p .pre .1 .small (loop p .loop .s) (loop p .loop .i) (p .before .before .loop-test .taken) (loop p .loop .inv .first) (inside p)
 
 smaller-requires : tie.Need-smaller-requires Inv-loop μ-loop
 smaller-requires c κs = search needs
 
 mul-row : tie.Need-mul-row Inv-loop μ-loop
-mul-row c = omega (arith, fair (c .before .before .before .before) .last)
+mul-row c = omega (arith, fair (c .before .before .before .before .before) .last)
 
 array-write-row : tie.Need-array-write-row Inv-loop μ-loop
-array-write-row c = omega (arith, fair (c .before .before .before .before) .last)
+array-write-row c = omega (arith, fair (c .before .before .before .before .before) .last)
 
 add-i : tie.Need-add-i Inv-loop μ-loop
 add-i c = search needs
@@ -96,11 +105,12 @@ loop-less c = search needs
 
 loop-again : tie.Need-loop-again Inv-loop μ-loop
 loop-again c =
-    let p = c .before .before .before .before in
+    let p = c .before .before .before .before .before in
     let h = p .before .before .before in
     let s = h .before .before in
-    filled-guard (s .args .upper) (s .args .t1) (s .pre) _ (h .loop .s) (h .loop .i) (h .loop .inv)
-    (p .before .before .loop-test .taken) (inside p) _ _ _ (c .before .side-key .ensures) (c .smaller .ensures)
+    filled-guard (s .args .upper) (s .args .t1) (s .pre .0) (s .args .constants .now) _
+    (h .loop .s) (h .loop .i) (h .loop .inv) (p .before .before .loop-test .taken) (inside p) _ _ _
+    (c .before .side-key .ensures) (c .smaller .ensures)
 
 add-s : tie.Need-add-s Inv-loop μ-loop
 add-s c = search needs
@@ -112,14 +122,15 @@ loop-again-2 : tie.Need-loop-again-2 Inv-loop μ-loop
 loop-again-2 c =
     let h = c .before .before .before in
     let s = h .before .before in
-    filled-step (s .args .upper) (s .args .t1) (s .pre) _ (h .loop .s) (h .loop .i) (h .loop .inv) (c .before .before .loop-test .taken)
-    (omega arith)
+    filled-step (s .args .upper) (s .args .t1) (s .pre .0) (s .args .constants .now) _
+    (h .loop .s) (h .loop .i) (h .loop .inv) (c .before .before .loop-test .taken) (omega arith)
 
 returns : tie.Need-returns Inv-loop μ-loop
 returns c =
     let h = c .before in
     let s = h .before .before in
-    filled-last (s .args .upper) (s .args .t1) (s .pre) _ (h .loop .s) (h .loop .i) (h .loop .inv) (c .loop-test .left)
+    filled-last (s .args .upper) (s .args .t1) (s .pre .0) (s .args .constants .now) _
+    (h .loop .s) (h .loop .i) (h .loop .inv) (c .loop-test .left)
 
 pub keys-spec : {M : Type 1} → statement M
 keys-spec =
@@ -139,6 +150,8 @@ keys-spec =
     add-at
     mul-smaller
     array-read-smaller
+    mul-side-key
+    element-copy-out-side-key
     side-key-requires
     smaller-requires
     mul-row

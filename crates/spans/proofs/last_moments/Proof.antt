@@ -26,39 +26,24 @@ fill-requires-2 c κs = search needs
 slice-write-late : tie.Need-slice-write-late
 slice-write-late c = search needs
 
-keys-requires : tie.Need-keys-requires
-keys-requires c κs = search needs
-
-keys-requires-2 : tie.Need-keys-requires-2
-keys-requires-2 c κs = search needs
-
-distances-requires : tie.Need-distances-requires
-distances-requires c κs = search needs
-
-slice-aggregate-settle : tie.Need-slice-aggregate-settle
-slice-aggregate-settle c = search needs
-
-slice-aggregate-settle-2 : tie.Need-slice-aggregate-settle-2
-slice-aggregate-settle-2 c = search needs
-
-slice-aggregate-settle-3 : tie.Need-slice-aggregate-settle-3
-slice-aggregate-settle-3 c = search needs
-
 settle-requires : tie.Need-settle-requires
 settle-requires c κs =
-    let b = c .before .before .before .before .before .before .before .before .before .before .before .before .before .before .before .before .before .before in
-    let g = rows-going _ _ (b .pre .0) _ _ _ (c .before .before .before .before .before .before .keys .ensures) (c .before .before .before .before .before .keys2 .ensures) (c .before .before .before .before .distances .ensures) _ (b .pre .2) in
-    (g .0, g .1, whole _ _ (b .pre .0), rows-bounded _ _ (b .pre .0) _ _ _ (c .before .before .before .before .before .before .keys .ensures) (c .before .before .before .before .before .keys2 .ensures) (c .before .before .before .before .distances .ensures) _ (b .pre .2) (b .pre .1) _ (filled-begins _ _ (b .pre .0) _ _ _ _ (b .pre .3) (c .before .before .before .before .before .before .before .before .before .before .before .before .before .fill .ensures) (c .before .before .before .before .before .before .before .before .before .fill2 .ensures) refl))
+    let b = c .before .before .before .before .before .before .before .before .before .before .before .before .before .before .before in
+    let g = rows-going _ _ (b .pre .0) _ _ _ (b .pre .2) in
+    let f = filled-begins _ _ (b .pre .0) _ _ _ _ (b .pre .3) (c .before .before .before .before .before .before .before .fill .ensures) (c .before .before .before .fill2 .ensures) refl in
+    (g .0, g .1, whole _ _ (b .pre .0), rows-bounded _ _ (b .pre .0) _ _ _ (b .pre .2) (b .pre .1) _ f)
 
 same-length : tie.Need-same-length
 same-length c =
-    let b = c .before .before .before .before .before .before .before .before .before .before .before .before .before .before .before .before .before .before .before .before .before in
-    c .before .before .settle .ensures .falling .size ∙ filled-size _ _ (b .pre .0) _ _ _ _ (b .pre .3) (c .before .before .before .before .before .before .before .before .before .before .before .before .before .before .before .before .fill .ensures) (c .before .before .before .before .before .before .before .before .before .before .before .before .fill2 .ensures) refl
+    let b = c .before .before .before .before .before .before .before .before .before .before .before .before .before .before .before .before .before .before in
+    c .before .before .settle .ensures .falling .size
+    ∙ filled-size _ _ (b .pre .0) _ _ _ _ (b .pre .3) (c .before .before .before .before .before .before .before .before .before .before .fill .ensures) (c .before .before .before .before .before .before .fill2 .ensures) refl
 
 returns : tie.Need-returns
 returns c =
-    let b = c .before .before .before .before .before .before .before .before .before .before .before .before .before .before .before .before .before .before .before .before .before in
-    (refl, rows-bounding _ _ (b .pre .0) _ _ _ (c .before .before .before .before .before .before .before .before .before .keys .ensures) (c .before .before .before .before .before .before .before .before .keys2 .ensures) (c .before .before .before .before .before .before .before .distances .ensures) _ (b .pre .2) _ _ (filled-begins _ _ (b .pre .0) _ _ _ _ (b .pre .3) (c .before .before .before .before .before .before .before .before .before .before .before .before .before .before .before .before .fill .ensures) (c .before .before .before .before .before .before .before .before .before .before .before .before .fill2 .ensures) refl) (c .before .before .settle .ensures))
+    let b = c .before .before .before .before .before .before .before .before .before .before .before .before .before .before .before .before .before .before in
+    let f = filled-begins _ _ (b .pre .0) _ _ _ _ (b .pre .3) (c .before .before .before .before .before .before .before .before .before .before .fill .ensures) (c .before .before .before .before .before .before .fill2 .ensures) refl in
+    (refl, rows-bounding _ _ (b .pre .0) _ _ _ (b .pre .2) _ _ f (c .before .before .settle .ensures))
 
 pub last-moments-spec : {M : Type 1} → statement M
 last-moments-spec =
@@ -71,12 +56,6 @@ last-moments-spec =
     add-fill-3
     fill-requires-2
     slice-write-late
-    keys-requires
-    keys-requires-2
-    distances-requires
-    slice-aggregate-settle
-    slice-aggregate-settle-2
-    slice-aggregate-settle-3
     settle-requires
     same-length
     returns)

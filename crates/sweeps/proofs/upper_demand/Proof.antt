@@ -1,4 +1,4 @@
--- `sides::upper_demand` meets its contract.
+-- `sweeps::upper_demand` meets its contract.
 use Rattle.sides.specs.Tight.{keyDemand}
 use borrow.Author.Needs.{needs}
 use Rattle.sweeps.proofs.upper_demand.Statement.{statement}

@@ -10,7 +10,7 @@ enum-known-partner c = search needs
 check-requires : tie.Need-check-requires
 check-requires c κs =
     let m = c .before .before .before .before in
-    one-able _ _ _ (m .partner .given .1) _ _ (m .before .before .before .before .before .pre)
+    one-able _ _ (m .partner .given .1) _ _ (m .before .before .before .before .before .pre)
 
 enum-told : tie.Need-enum-told
 enum-told c = search needs
@@ -27,10 +27,10 @@ same-length-3 c = search needs
 returns : tie.Need-returns
 returns c =
     let k = c .before .before .before .before .before .before in
-    one-checked _ _ _ (k .before .before .before .before .before .partner .given .1) _ _ _ _ _ _ (k .check .ensures)
+    one-checked _ _ (k .before .before .before .before .before .partner .given .1) _ _ _ _ _ _ (k .check .ensures)
 
 returns-2 : tie.Need-returns-2
-returns-2 c = none-checked _ _ (c .enum-told .given .1) _ _ _
+returns-2 c = none-checked _ (c .enum-told .given .1) _ _ _
 
 pub check-partner-spec : {M : Type 1} → statement M
 check-partner-spec =

@@ -12,15 +12,15 @@ use Rattle.ways.proofs.check_starts.Statement.{statement}
 use Rattle.ways.proofs.check_starts.Tie as tie
 
 abbrev Inv-loop : tie.InvT-loop
-Inv-loop total clocks parts time₀ parent₀ stamp₀ swept₀ j₀ time parent stamp swept j =
-    Left (starts-by total) parts clocks (swept₀ .raised) (swept₀ .stamp) (state time₀ parent₀ stamp₀)
+Inv-loop total clocks time₀ parent₀ stamp₀ swept₀ j₀ time parent stamp swept j =
+    Left (starts-by total) clocks (swept₀ .raised) (swept₀ .stamp) (state time₀ parent₀ stamp₀)
     j (swept .raised) (swept .stamp) (state time parent stamp)
 
 abbrev μ-loop : tie.MeasureT-loop
-μ-loop total clocks parts time₀ parent₀ stamp₀ swept₀ j₀ time parent stamp swept j = clocks + 1 - j
+μ-loop total clocks time₀ parent₀ stamp₀ swept₀ j₀ time parent stamp swept j = clocks + 1 - j
 
 loop-holds : tie.Need-loop-holds Inv-loop μ-loop
-loop-holds c = clocks-first (starts-by _) _ _ _ _ _ (c .before .before .before .pre .2)
+loop-holds c = clocks-first (starts-by _) _ _ _ _ (c .before .before .before .pre .2)
 
 add-not-after : tie.Need-add-not-after Inv-loop μ-loop
 add-not-after c = search needs
@@ -33,7 +33,7 @@ check-requires c κs =
     let a = c .before .before .before in
     let t = a .before in
     let l = t .before .loop in
-    clocks-able (starts-by _) _ _ _ _ _ (l .j) _ _ _ (l .inv) (omega (arith, t .loop-test .taken)) _
+    clocks-able (starts-by _) _ _ _ _ (l .j) _ _ _ (l .inv) (omega (arith, t .loop-test .taken)) _
     (ap (λ d. d ∷ []) (a .not-after .ensures))
 
 add-j : tie.Need-add-j Inv-loop μ-loop
@@ -48,20 +48,20 @@ loop-again c =
     let a = k .before .before .before .before in
     let t = a .before in
     let l = t .before .loop in
-    clocks-next (starts-by _) _ _ _ _ _ (l .j) _ _ _ (l .inv) (omega (arith, t .loop-test .taken)) _
+    clocks-next (starts-by _) _ _ _ _ (l .j) _ _ _ (l .inv) (omega (arith, t .loop-test .taken)) _
     (ap (λ d. d ∷ []) (a .not-after .ensures)) _ _ _ (k .check .ensures)
 
 same-length : tie.Need-same-length Inv-loop μ-loop
-same-length c = turn-size _ _ _ _ _ _ _ _ _ (c .before .loop .inv) .time
+same-length c = turn-size _ _ _ _ _ _ _ _ (c .before .loop .inv) .time
 
 same-length-2 : tie.Need-same-length-2 Inv-loop μ-loop
-same-length-2 c = turn-size _ _ _ _ _ _ _ _ _ (c .before .loop .inv) .parent
+same-length-2 c = turn-size _ _ _ _ _ _ _ _ (c .before .loop .inv) .parent
 
 same-length-3 : tie.Need-same-length-3 Inv-loop μ-loop
-same-length-3 c = turn-size _ _ _ _ _ _ _ _ _ (c .before .loop .inv) .stamp
+same-length-3 c = turn-size _ _ _ _ _ _ _ _ (c .before .loop .inv) .stamp
 
 returns : tie.Need-returns Inv-loop μ-loop
-returns c = clocks-last (starts-by _) _ _ _ _ _ _ _ _ _ (c .before .loop .inv) (omega (arith, c .loop-test .left))
+returns c = clocks-last (starts-by _) _ _ _ _ _ _ _ _ (c .before .loop .inv) (omega (arith, c .loop-test .left))
 
 pub check-starts-spec : {M : Type 1} → statement M
 check-starts-spec =

@@ -4,7 +4,7 @@ use borrow.Author.Needs.{needs}
 use native.Mathlib.Numerals.{add-one}
 use native.Mathlib.Nat.{mod-eq-of-lt}
 use native.Mathlib.Omega.{arith}
-use Prim.Native.Nat.{_+_, _-_, _%_}
+use Prim.Native.Nat.{_-_, _%_}
 use Rattle.constraints.specs.Pieces.{followingOf}
 use Rattle.last_resets.specs.Walking.{following-mod}
 use Rattle.sweeps.specs.Order.{forthOf}
@@ -15,13 +15,13 @@ use Rattle.ways.proofs.forth.Statement.{statement}
 use Rattle.ways.proofs.forth.Tie as tie
 
 abbrev Inv-loop : tie.InvT-loop
-Inv-loop low far steps clocks total parts time₀ parent₀ stamp₀ swept₀ i₀ s₀ time parent stamp swept i s =
-    Turn parts (forthOf low far steps clocks total 0 total) (swept₀ .raised) (swept₀ .stamp) (state time₀ parent₀ stamp₀)
+Inv-loop low far steps clocks total time₀ parent₀ stamp₀ swept₀ i₀ s₀ time parent stamp swept i s =
+    Turn (forthOf low far steps clocks total 0 total) (swept₀ .raised) (swept₀ .stamp) (state time₀ parent₀ stamp₀)
     (forthFrom low far steps clocks total i) (swept .raised) (swept .stamp) (state time parent stamp)
     × (s ≡ i % steps)
 
 abbrev μ-loop : tie.MeasureT-loop
-μ-loop low far steps clocks total parts time₀ parent₀ stamp₀ swept₀ i₀ s₀ time parent stamp swept i s = total - i
+μ-loop low far steps clocks total time₀ parent₀ stamp₀ swept₀ i₀ s₀ time parent stamp swept i s = total - i
 
 -- where it began
 abbrev entry : tie.At-loop Inv-loop μ-loop → tie.Start Inv-loop μ-loop
@@ -29,7 +29,7 @@ entry c = c .before .before .before .before .before .before
 
 loop-holds : tie.Need-loop-holds Inv-loop μ-loop
 loop-holds c =
-    let g = c .before .before .before .before .before .pre in (forth-first _ _ _ _ _ _ _ _ _ (g .1), sym (mod-eq-of-lt (g .0 .some)))
+    let g = c .before .before .before .before .before .pre in (forth-first _ _ _ _ _ _ _ _ (g .1), sym (mod-eq-of-lt (g .0 .some)))
 
 add-not-after : tie.Need-add-not-after Inv-loop μ-loop
 add-not-after c = search needs
@@ -40,7 +40,7 @@ not-after-requires c κs = search needs
 check-requires : tie.Need-check-requires Inv-loop μ-loop
 check-requires c κs =
     let l = c .before .before .before .before .before .loop in
-    order-able _ _ _ _ _ _ _ _ _ (l .i) _ _ _ (l .inv .0) (c .before .before .before .before .loop-test .taken) _ (l .inv .1) _ (c .before .before .before .not-after .ensures)
+    order-able _ _ _ _ _ _ _ _ (l .i) _ _ _ (l .inv .0) (c .before .before .before .before .loop-test .taken) _ (l .inv .1) _ (c .before .before .before .not-after .ensures)
 
 check-side-requires : tie.Need-check-side-requires Inv-loop μ-loop
 check-side-requires c κs =
@@ -48,7 +48,7 @@ check-side-requires c κs =
     let h = k .before .before .before .before .before .before in
     let l = h .loop in (
       going-placed _ _ _ _ _ _ _ (entry h .pre .0) (l .inv .1) (k .before .before .before .before .before .loop-test .taken),
-      lower-able _ _ _ _ _ _ _ _ _ (l .i) _ _ _ (l .inv .0) (k .before .before .before .before .before .loop-test .taken) _ (l .inv .1) _ (k .before .before .before .before .not-after .ensures)
+      lower-able _ _ _ _ _ _ _ _ (l .i) _ _ _ (l .inv .0) (k .before .before .before .before .before .loop-test .taken) _ (l .inv .1) _ (k .before .before .before .before .not-after .ensures)
           _ _ _ (k .check .ensures),
     )
 
@@ -69,7 +69,7 @@ loop-again c =
     let k = c .before .before .before .before .before .before .before .before .before .before .before .before .before .before .before .before .before in
     let h = k .before .before .before .before .before .before in
     let l = h .loop in (
-      forth-next _ _ _ _ _ _ _ _ _ (l .i) _ _ _ (l .inv .0) (k .before .before .before .before .before .loop-test .taken) _ (l .inv .1) _ (k .before .before .before .before .not-after .ensures)
+      forth-next _ _ _ _ _ _ _ _ (l .i) _ _ _ (l .inv .0) (k .before .before .before .before .before .loop-test .taken) _ (l .inv .1) _ (k .before .before .before .before .not-after .ensures)
           _ _ _ (k .check .ensures) _ _ _ (c .before .before .before .before .before .before .before .check-side .ensures),
       c .following .ensures
           ∙ ap (λ n. followingOf n (entry h .args .steps)) (l .inv .1)
@@ -78,16 +78,16 @@ loop-again c =
     )
 
 same-length : tie.Need-same-length Inv-loop μ-loop
-same-length c = turn-size _ _ _ _ _ _ _ _ _ (c .before .loop .inv .0) .time
+same-length c = turn-size _ _ _ _ _ _ _ _ (c .before .loop .inv .0) .time
 
 same-length-2 : tie.Need-same-length-2 Inv-loop μ-loop
-same-length-2 c = turn-size _ _ _ _ _ _ _ _ _ (c .before .loop .inv .0) .parent
+same-length-2 c = turn-size _ _ _ _ _ _ _ _ (c .before .loop .inv .0) .parent
 
 same-length-3 : tie.Need-same-length-3 Inv-loop μ-loop
-same-length-3 c = turn-size _ _ _ _ _ _ _ _ _ (c .before .loop .inv .0) .stamp
+same-length-3 c = turn-size _ _ _ _ _ _ _ _ (c .before .loop .inv .0) .stamp
 
 returns : tie.Need-returns Inv-loop μ-loop
-returns c = forth-last _ _ _ _ _ _ _ _ _ _ _ _ _ (c .before .loop .inv .0) (omega (arith, c .loop-test .left))
+returns c = forth-last _ _ _ _ _ _ _ _ _ _ _ _ (c .before .loop .inv .0) (omega (arith, c .loop-test .left))
 
 pub forth-spec : {M : Type 1} → statement M
 forth-spec =
