@@ -11,6 +11,7 @@ use borrow.Author.Tests.{eq-eqb}
 use lib.ListN.{length, getD}
 use Rattle.runs.specs.declared.Demand.{Demand}
 use Rattle.runs.specs.Parts.{bit, bit-small}
+use Rattle.scaling.specs.Scaled.{most}
 use Rattle.sides.specs.Sides.{none}
 use Rattle.sides.specs.Tight.{keyDemand, keyDemands, key-demands-some, key-demands-none}
 use Rattle.last_resets.specs.Distance.{lastOf}
@@ -32,11 +33,11 @@ pub record Raisable (i j K : ℕ) (time : List ℕ) : Type 0 where
   pub now : at time 0 ≤ 2 ^ 62
 
 -- The gain of a lower key is small.
-pub lower-gain : (key z i : ℕ) (d : Demand) → d ≡ keyDemand false key z i → d .down + bit (d .strict) ≤ 4124001
+pub lower-gain : (key z i : ℕ) (d : Demand) → d ≡ keyDemand false key z i → d .down + bit (d .strict) ≤ most + 1
 unfolding keyDemand
 lower-gain key z i d e = omega (arith, half, bit-small (d .strict))
   where
-    half : d .down ≤ 4124000
+    half : d .down ≤ most
     half = rw e (omega arith)
 
 module _ (K : ℕ) (x : ℕ → ℕ) (j : ℕ) where

@@ -15,8 +15,8 @@ use Rattle.checks.specs.Checks.{Slight}
 use Rattle.ways.specs.Forth.{Going}
 
 -- With a place 7 * s + j for step s of a round and clock j: the keys of the tightest guards from below and from above, their
--- constants in parts, and the distances to the last resets. Rounds have so many steps and clocks, and all rounds together `total` steps; they start as the variant
--- says.
+-- constants in parts, and the distances to the last resets. Rounds have so many steps and clocks, and all rounds together `total` steps;
+-- they start as the variant says.
 pub record Rows : Type 0 where
   pub low : List ℕ
   pub up : List ℕ

@@ -10,7 +10,7 @@ use Rattle.table.specs.Steps.{guard-fair}
 use Rattle.table.specs.declared.Guard.{Guard}
 use Rattle.table.specs.declared.Relation.the-variants.{Under}
 use Rattle.table.specs.declared.Table.{Table}
-use Rattle.scaling.specs.Scaled.{guardsIn, constantAt, constant-at, scaledOf, scaled-at}
+use Rattle.scaling.specs.Scaled.{most, guardsIn, constantAt, constant-at, scaledOf, scaled-at}
 
 -- a guard with another constant
 abbrev pub withConstant : ℕ → Guard → Guard
@@ -69,7 +69,7 @@ drop-map f (suc a) [] = refl
 drop-map f (suc a) (g ∷ gs) = drop-map f a gs
 
 -- ---- the table in P parts to a tick
-small : (c P : ℕ) → c ≤ 4000 → P ≤ 1031 → c * P ≤ 4124000
+small : (c P : ℕ) → c ≤ 4000 → P ≤ 1031 → c * P ≤ most
 small c P h l = omega (arith, mul-le-mul-left c l)
 
 module _ (P : ℕ) (t : Table) (good : Good t) where
@@ -96,7 +96,7 @@ module _ (P : ℕ) (t : Table) (good : Good t) where
 
   -- no number of a guard is too large
   pub scaled-small : P ≤ 1031 → (k i : ℕ) → k < t .steps → getD (t .ends) k 0 ≤ i → i < getD (t .ends) (k + 1) 0
-      → getD (scaledOf P t) i 0 ≤ 4124000
+      → getD (scaledOf P t) i 0 ≤ most
   scaled-small few k i l a b =
       omega (arith, scaled-at P t i (omega (arith, step-end k l)) inside, small (constantAt t i) P (omega (arith, is, fair .small)) few)
     where

@@ -12,6 +12,10 @@ use Rattle.table.specs.declared.Guard.{Guard}
 use Rattle.table.specs.declared.Table.{Table}
 use Rattle.basics.specs.Tab.{tab, length-tab, getD-tab, is-tab}
 
+-- the largest number of a guard: 4000, in 1031 parts to a tick
+abbrev pub most : ℕ
+most = 4000 * 1031
+
 -- how many guards a table has
 abbrev pub guardsIn : Table → ℕ
 guardsIn t = getD (t .ends) (t .steps) 0

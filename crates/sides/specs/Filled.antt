@@ -12,8 +12,9 @@ use Rattle.table.specs.Step.{FairGuard, stepAt, Good}
 use Rattle.table.specs.Steps.{guard-fair}
 use Rattle.table.specs.declared.Guard.{Guard}
 use Rattle.table.specs.declared.Table.{Table}
+use Rattle.scaling.specs.Scaled.{most}
 use Rattle.scaling.specs.Constants.{withConstant, withConstants, tableWith, with-length, with-at}
-use Rattle.sides.specs.Sides.{Side, most, none, sideKey}
+use Rattle.sides.specs.Sides.{Side, none, sideKey}
 use Rattle.sides.specs.Tight.{least, least-nil, least-own, least-other}
 use Rattle.sides.specs.Keys.{keyAt, keysOf, key-step, key-after, is-keys}
 

@@ -13,8 +13,9 @@ use Rattle.table.specs.declared.Relation.{Relation}
 use Rattle.table.specs.declared.Relation.the-variants.{Under, AtMost, Exactly, AtLeast, Over}
 use Rattle.runs.specs.declared.Demand.{Demand}
 use Rattle.runs.specs.Tools.{Every}
+use Rattle.scaling.specs.Scaled.{most}
 use Rattle.scaling.specs.Constants.{scaleGuard}
-use Rattle.sides.specs.Sides.{Side, Has, strictly, slack, sideDemand, most, none, sideKey, has-key, upper-key, lower-key}
+use Rattle.sides.specs.Sides.{Side, Has, strictly, slack, sideDemand, none, sideKey, has-key, upper-key, lower-key}
 use Rattle.sides.specs.Tight.{least, keyOn, keyDemands, key-own, key-other, key-demand, key-demands-some, key-demands-none}
 
 -- a demand with its constants in P parts to a tick

@@ -12,6 +12,7 @@ use Rattle.table.specs.declared.Relation.the-variants.{Under, AtMost, Exactly, 
 use Rattle.runs.specs.declared.Demand.{Demand}
 use Rattle.runs.specs.Demand.{plus, minus, guardDemands}
 use Rattle.runs.specs.Loop.{AsTight}
+use Rattle.scaling.specs.Scaled.{most}
 
 -- The upper side is `true`, the lower one `false`.
 abbrev pub Side : Type 0
@@ -43,13 +44,9 @@ sideDemand true r c z i = plus z i c (strictly r)
 sideDemand false r c z i = minus i z c (strictly r)
 
 -- ---- keys
--- the largest constant: 4000, in 1031 parts
-abbrev pub most : ℕ
-most = 4124000
-
 -- the key of a side that is not there: past all others
 abbrev pub none : ℕ
-none = 8248002
+none = 2 * most + 2
 
 -- The smaller the tighter, for constants up to `most`.
 abbrev pub sideKey : Side → Relation → ℕ → ℕ
@@ -60,9 +57,9 @@ sideKey true AtLeast c = none
 sideKey true Over c = none
 sideKey false Under c = none
 sideKey false AtMost c = none
-sideKey false Exactly c = 8248001 - 2 * c
-sideKey false AtLeast c = 8248001 - 2 * c
-sideKey false Over c = 8248000 - 2 * c
+sideKey false Exactly c = 2 * most + 1 - 2 * c
+sideKey false AtLeast c = 2 * most + 1 - 2 * c
+sideKey false Over c = 2 * most - 2 * c
 
 -- the key of a side and a relation that are known
 pub key-known : (s q : Side) (r p : Relation) (c a : ℕ) → a ≡ sideKey s r c → q ≡ s → p ≡ r → a ≡ sideKey q p c
@@ -126,7 +123,7 @@ upper-key Exactly c h = refl
 upper-key AtLeast c h = absurd h
 upper-key Over c h = absurd h
 
-pub lower-key : (r : Relation) (c : ℕ) → c ≤ most → Has false r → sideKey false r c + 2 * c ≡ 8248000 + slack (strictly r)
+pub lower-key : (r : Relation) (c : ℕ) → c ≤ most → Has false r → sideKey false r c + 2 * c ≡ 2 * most + slack (strictly r)
 lower-key Under c l h = absurd h
 lower-key AtMost c l h = absurd h
 lower-key Exactly c l h = omega arith

@@ -16,7 +16,8 @@ use Rattle.table.specs.declared.Relation.{Relation}
 use Rattle.runs.specs.declared.Demand.{Demand}
 use Rattle.runs.specs.Demand.{plus, minus, guardDemands, guardsDemands}
 use Rattle.runs.specs.Tools.{Every}
-use Rattle.sides.specs.Sides.{Side, Has, strictly, sideDemand, most, none, sideKey, key-has, has-key, key-tight, upper-key, lower-key}
+use Rattle.scaling.specs.Scaled.{most}
+use Rattle.sides.specs.Sides.{Side, Has, strictly, sideDemand, none, sideKey, key-has, has-key, key-tight, upper-key, lower-key}
 use Rattle.sides.specs.Sides.{slack, side-listed, Listed, listed-side}
 use Rattle.sides.specs.Covers.{Stronger, Covers}
 
@@ -32,7 +33,7 @@ least s clock (g ∷ gs) = min (keyOn s clock g) (least s clock gs)
 -- the demand of a key on a side, at moment i, on a clock last reset at moment z
 unfoldable pub keyDemand : Side → ℕ → ℕ → ℕ → Demand
 keyDemand true key z i = plus z i (key / 2) (eqb (key % 2) 0)
-keyDemand false key z i = minus i z ((8248001 - key) / 2) (eqb (key % 2) 0)
+keyDemand false key z i = minus i z ((2 * most + 1 - key) / 2) (eqb (key % 2) 0)
 
 -- and none where there is no such side
 unfoldable pub keyDemands : Side → ℕ → ℕ → ℕ → List Demand
@@ -101,7 +102,7 @@ upper-halves : (b : Bool) (c key : ℕ) → key ≡ 2 * c + slack b → (key / 2
 upper-halves true c key e = (omega arith, eq-eqb (key % 2) 0 (omega arith))
 upper-halves false c key e = (omega arith, ne-eqb (key % 2) 0 (omega arith))
 
-lower-halves : (b : Bool) (c key : ℕ) → key + 2 * c ≡ 8248000 + slack b → ((8248001 - key) / 2 ≡ c) × (eqb (key % 2) 0 ≡ b)
+lower-halves : (b : Bool) (c key : ℕ) → key + 2 * c ≡ 2 * most + slack b → ((2 * most + 1 - key) / 2 ≡ c) × (eqb (key % 2) 0 ≡ b)
 lower-halves true c key e = (omega arith, eq-eqb (key % 2) 0 (omega arith))
 lower-halves false c key e = (omega arith, ne-eqb (key % 2) 0 (omega arith))
 

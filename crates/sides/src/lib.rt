@@ -5,10 +5,16 @@ ghost use mathlib.Core.Path.{_≡_};
 ghost use mathlib.Core.Bool.{true, false};
 ghost use Prim.Native.Nat.{_≤_, _-_, min};
 ghost use Rattle.table.specs.Step.{Good};
+ghost use Rattle.scaling.specs.Scaled.{most};
 ghost use Rattle.scaling.specs.Constants.{tableWith};
-ghost use Rattle.sides.specs.Sides.{most, sideKey};
+ghost use Rattle.sides.specs.Sides.{sideKey};
 ghost use Rattle.sides.specs.Keys.{keysOf};
 ghost use Rattle.sides.specs.Filled.{Numbers};
+
+// The largest keys of a guard, weak and strict: twice the largest constant, 4,000 in 1,031 parts, and one more where it is weak.
+pub const TOP_WEAK: u64 = 8248001;
+
+const TOP_STRICT: u64 = 8248000;
 
 // The key of no guard: past all others.
 pub const NONE: u64 = 8248002;
@@ -35,9 +41,9 @@ fn lower_key(relation: Relation, constant: u64) -> u64
     match relation {
         Relation::Under => NONE,
         Relation::AtMost => NONE,
-        Relation::Exactly => 8248001 - 2 * constant,
-        Relation::AtLeast => 8248001 - 2 * constant,
-        Relation::Over => 8248000 - 2 * constant,
+        Relation::Exactly => TOP_WEAK - 2 * constant,
+        Relation::AtLeast => TOP_WEAK - 2 * constant,
+        Relation::Over => TOP_STRICT - 2 * constant,
     }
 }
 

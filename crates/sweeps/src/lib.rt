@@ -1,6 +1,7 @@
 // The order in which passes check the demands of k rounds, forth over those that raise a later moment and back over the others; and
 // the demand that a key stands for.
 use runs::Demand;
+use sides::TOP_WEAK;
 ghost use mathlib.Core.Path.{_≡_};
 ghost use mathlib.Core.Bool.{true, false};
 ghost use Prim.Native.Nat.{_<_};
@@ -29,7 +30,7 @@ pub fn lower_demand(key: u64, z: usize, i: usize) -> Demand
         from: i,
         to: z,
         up: 0,
-        down: (8248001 - key) / 2,
+        down: (TOP_WEAK - key) / 2,
         strict: key % 2 == 0,
     }
 }

@@ -1,4 +1,4 @@
--- `sweeps::lower_demand` meets its contract: no key of a guard is past 8248001.
+-- `sweeps::lower_demand` meets its contract: no key of a guard is past the largest weak one.
 use Rattle.sides.specs.Tight.{keyDemand}
 use borrow.Author.Needs.{needs}
 use Rattle.sweeps.proofs.lower_demand.Statement.{statement}
