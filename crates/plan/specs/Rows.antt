@@ -5,7 +5,7 @@ use mathlib.Core.Bool.{Bool, true, false}
 use mathlib.Core.List.{List, map, List·Memᴰ, Memᴰ·of-map}
 use Prim.Native.Nat.{ℕ, _+_, _*_}
 use native.Mathlib.Omega.{arith}
-use native.Mathlib.Nat.{mul-le-mul-right, mul-le-mul-left, mul-mod-left}
+use native.Mathlib.Nat.{mul-mod-left}
 use Rattle.table.specs.declared.Table.{Table}
 use Rattle.runs.specs.declared.Demand.{Demand}
 use Rattle.runs.specs.declared.Start.{Start}
@@ -15,11 +15,10 @@ use Rattle.runs.specs.Parts.{bit-small}
 use Rattle.runs.specs.Tools.{Every}
 use Rattle.constraints.specs.Demands.{demandsOf}
 use Rattle.constraints.specs.Sized.{Sized, partsOf, sized-parts, sized-proper}
-use Rattle.scaling.specs.Scaled.{scaledOf, scaled-size}
+use Rattle.scaling.specs.Scaled.{scaled-most, scaledOf, scaled-size}
 use Rattle.scaling.specs.Constants.{tableWith, scaledTable, scaled-small}
-use Rattle.sides.specs.Keys.{keysOf, keys-size}
+use Rattle.sides.specs.Keys.{Numbers, keysOf, keys-size}
 use Rattle.sides.specs.Covers.{Covers}
-use Rattle.sides.specs.Filled.{Numbers}
 use Rattle.sides.specs.Scaled.{scaleDemand}
 use Rattle.last_resets.specs.Distance.{distancesOf, distances-size}
 use Rattle.sweeps.specs.Order.{sweepOf}
@@ -68,8 +67,8 @@ module _ (t : Table) (v : Start) (k : ℕ) (z : Sized t k) where
           (record {
             from = omega (arith, p .from);
             to = omega (arith, p .to);
-            gain = omega (arith, mul-le-mul-right P (p .down), mul-le-mul-left 4000 (sized-parts t k z), bit-small (e .strict));
-            loss = omega (arith, mul-le-mul-right P (p .up), mul-le-mul-left 4000 (sized-parts t k z));
+            gain = omega (arith, scaled-most (e .down) P (p .down) (sized-parts t k z), bit-small (e .strict));
+            loss = omega (arith, scaled-most (e .up) P (p .up) (sized-parts t k z));
           })
 
   pub rows-sound : Sound (rowsOf t v k)

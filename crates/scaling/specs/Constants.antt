@@ -2,7 +2,6 @@
 use mathlib.Core.Path.{_≡_, refl, ap, _∙_}
 use mathlib.Core.List.{List, [], _∷_, map}
 use Prim.Native.Nat.{ℕ, zero, suc, _+_, _*_, _-_, _≤_, _<_}
-use native.Mathlib.Nat.{mul-le-mul-left}
 use native.Mathlib.Omega.{arith}
 use lib.ListN.{length, getD, take, drop}
 use Rattle.table.specs.Step.{FairGuard, stepAt, Good}
@@ -10,7 +9,7 @@ use Rattle.table.specs.Steps.{guard-fair}
 use Rattle.table.specs.declared.Guard.{Guard}
 use Rattle.table.specs.declared.Relation.the-variants.{Under}
 use Rattle.table.specs.declared.Table.{Table}
-use Rattle.scaling.specs.Scaled.{most, guardsIn, constantAt, constant-at, scaledOf, scaled-at}
+use Rattle.scaling.specs.Scaled.{most, scaled-most, guardsIn, constantAt, constant-at, scaledOf, scaled-at}
 
 -- a guard with another constant
 abbrev pub withConstant : ℕ → Guard → Guard
@@ -69,9 +68,6 @@ drop-map f (suc a) [] = refl
 drop-map f (suc a) (g ∷ gs) = drop-map f a gs
 
 -- ---- the table in P parts to a tick
-small : (c P : ℕ) → c ≤ 4000 → P ≤ 1031 → c * P ≤ most
-small c P h l = omega (arith, mul-le-mul-left c l)
-
 module _ (P : ℕ) (t : Table) (good : Good t) where
   -- n steps before the last end
   ends-few : (n i : ℕ) → i + n ≡ t .steps → getD (t .ends) i 0 ≤ guardsIn t
@@ -98,7 +94,7 @@ module _ (P : ℕ) (t : Table) (good : Good t) where
   pub scaled-small : P ≤ 1031 → (k i : ℕ) → k < t .steps → getD (t .ends) k 0 ≤ i → i < getD (t .ends) (k + 1) 0
       → getD (scaledOf P t) i 0 ≤ most
   scaled-small few k i l a b =
-      omega (arith, scaled-at P t i (omega (arith, step-end k l)) inside, small (constantAt t i) P (omega (arith, is, fair .small)) few)
+      omega (arith, scaled-at P t i (omega (arith, step-end k l)) inside, scaled-most (constantAt t i) P (omega (arith, is, fair .small)) few)
     where
       unread : Guard
       unread = record { clock = 0; relation = Under; constant = 0 }

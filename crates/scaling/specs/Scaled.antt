@@ -3,6 +3,7 @@ use mathlib.Core.Path.{_≡_, refl, _∙_}
 use mathlib.Core.Bool.{cond}
 use mathlib.Core.List.{List, [], _∷_, map}
 use Prim.Native.Nat.{ℕ, zero, suc, _*_, _≤_, _<_}
+use native.Mathlib.Nat.{mul-le-mul-left}
 use native.Mathlib.Omega.{arith}
 use native.Mathlib.Decide.{decLt}
 use borrow.Author.Tests.{lt-ltb, le-ltb}
@@ -15,6 +16,9 @@ use Rattle.basics.specs.Tab.{tab, length-tab, getD-tab, is-tab}
 -- the largest number of a guard: 4000, in 1031 parts to a tick
 abbrev pub most : ℕ
 most = 4000 * 1031
+
+pub scaled-most : (c P : ℕ) → c ≤ 4000 → P ≤ 1031 → c * P ≤ most
+scaled-most c P h l = omega (arith, mul-le-mul-left c l)
 
 -- how many guards a table has
 abbrev pub guardsIn : Table → ℕ

@@ -12,16 +12,10 @@ use Rattle.table.specs.Step.{FairGuard, stepAt, Good}
 use Rattle.table.specs.Steps.{guard-fair}
 use Rattle.table.specs.declared.Guard.{Guard}
 use Rattle.table.specs.declared.Table.{Table}
-use Rattle.scaling.specs.Scaled.{most}
 use Rattle.scaling.specs.Constants.{withConstant, withConstants, tableWith, with-length, with-at}
 use Rattle.sides.specs.Sides.{Side, none, sideKey}
 use Rattle.sides.specs.Tight.{least, least-nil, least-own, least-other}
 use Rattle.sides.specs.Keys.{keyAt, keysOf, key-step, key-after, is-keys}
-
--- What is asked of a row of constants: a number for each guard, and none too large.
-pub record Numbers (t : Table) (row : List ℕ) : Type 0 where
-  pub size : length row ≡ 64
-  pub small : (k i : ℕ) → k < t .steps → getD (t .ends) k 0 ≤ i → i < getD (t .ends) (k + 1) 0 → getD row i 0 ≤ most
 
 -- Steps 0 to k - 1 are done, and of step k the guards before place i.
 pub record Filled (s : Side) (t : Table) (row : List ℕ) (k i : ℕ) : Type 0 where

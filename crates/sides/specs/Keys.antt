@@ -10,9 +10,15 @@ use lib.Dec.{ltb}
 use lib.ListN.{length, getD}
 use Rattle.table.specs.Step.{stepAt}
 use Rattle.table.specs.declared.Table.{Table}
+use Rattle.scaling.specs.Scaled.{most}
 use Rattle.basics.specs.Tab.{tab, length-tab, getD-tab, is-tab}
 use Rattle.sides.specs.Sides.{Side, none}
 use Rattle.sides.specs.Tight.{least, least-none}
+
+-- What is asked of a row of constants: a number for each guard, and none too large.
+pub record Numbers (t : Table) (row : List ℕ) : Type 0 where
+  pub size : length row ≡ 64
+  pub small : (k i : ℕ) → k < t .steps → getD (t .ends) k 0 ≤ i → i < getD (t .ends) (k + 1) 0 → getD row i 0 ≤ most
 
 -- the key of step i and clock j, and none after the last step
 unfoldable pub keyAt : Side → Table → ℕ → ℕ → ℕ

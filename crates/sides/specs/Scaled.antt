@@ -13,7 +13,7 @@ use Rattle.table.specs.declared.Relation.{Relation}
 use Rattle.table.specs.declared.Relation.the-variants.{Under, AtMost, Exactly, AtLeast, Over}
 use Rattle.runs.specs.declared.Demand.{Demand}
 use Rattle.runs.specs.Tools.{Every}
-use Rattle.scaling.specs.Scaled.{most}
+use Rattle.scaling.specs.Scaled.{most, scaled-most}
 use Rattle.scaling.specs.Constants.{scaleGuard}
 use Rattle.sides.specs.Sides.{Side, Has, strictly, slack, sideDemand, none, sideKey, has-key, upper-key, lower-key}
 use Rattle.sides.specs.Tight.{least, keyOn, keyDemands, key-own, key-other, key-demand, key-demands-some, key-demands-none}
@@ -62,9 +62,6 @@ demand-scaled P false r c z i = let e : 0 * P ≡ 0 = omega arith in rw e
 
 -- ---- keys
 module _ (P : ℕ) (p : 0 < P) (few : P ≤ 1031) where
-  most-scaled : (c : ℕ) → c ≤ 4000 → c * P ≤ most
-  most-scaled c l = omega (arith, mul-le-mul-right P l)
-
   -- a side as tight as another is so in parts
   key-order : (s : Side) (r q : Relation) (c e : ℕ) → c ≤ 4000 → e ≤ 4000 → Has s r → Has s q
       → sideKey s r c ≤ sideKey s q e → sideKey s r (c * P) ≤ sideKey s q (e * P)
@@ -76,8 +73,8 @@ module _ (P : ℕ) (p : 0 < P) (few : P ≤ 1031) where
       omega (arith, lower-key r c (omega arith) h, lower-key q e (omega arith) k) in
       omega (
         arith,
-        lower-key r (c * P) (most-scaled c l) h,
-        lower-key q (e * P) (most-scaled e m) k,
+        lower-key r (c * P) (scaled-most c P l few) h,
+        lower-key q (e * P) (scaled-most e P m few) k,
         order-scaled P (strictly r) (strictly q) e c p order,
       )
 
@@ -105,7 +102,7 @@ module _ (P : ℕ) (p : 0 < P) (few : P ≤ 1031) where
               (omega (arith, f .ticks, g .ticks)),
         )
     pair-order a b c d (inl f) (inr n) h =
-        omega (arith, f .scaled, n .1, has-key s (f .relation) (f .constant * P) (most-scaled (f .constant) (f .small)) (f .has))
+        omega (arith, f .scaled, n .1, has-key s (f .relation) (f .constant * P) (scaled-most (f .constant) P (f .small) few) (f .has))
     pair-order a b c d (inr n) (inl g) h =
         absurd (omega (arith, n .0, g .ticks, has-key s (g .relation) (g .constant) (omega (arith, g .small)) (g .has)))
     pair-order a b c d (inr n) (inr k) h = omega (arith, n .1, k .1)
@@ -157,7 +154,7 @@ module _ (P : ℕ) (p : 0 < P) (few : P ≤ 1031) where
         ∙ ap (map (scaleDemand P)) (sym (key-demands-none s key z i (omega (arith, n .0))))
     paired-demands key parts z i (inl f) =
         ap (λ n. keyDemands s n z i) (f .scaled)
-        ∙ side-demands s (f .relation) (f .constant * P) z i (most-scaled (f .constant) (f .small)) (f .has)
+        ∙ side-demands s (f .relation) (f .constant * P) z i (scaled-most (f .constant) P (f .small) few) (f .has)
         ∙ ap (λ d. d ∷ []) (demand-scaled P s (f .relation) (f .constant) z i)
         ∙ ap (map (scaleDemand P))
         (sym (ap (λ n. keyDemands s n z i) (f .ticks)

@@ -8,8 +8,7 @@ ghost use Rattle.table.specs.Step.{Good};
 ghost use Rattle.scaling.specs.Scaled.{most};
 ghost use Rattle.scaling.specs.Constants.{tableWith};
 ghost use Rattle.sides.specs.Sides.{sideKey};
-ghost use Rattle.sides.specs.Keys.{keysOf};
-ghost use Rattle.sides.specs.Filled.{Numbers};
+ghost use Rattle.sides.specs.Keys.{Numbers, keysOf};
 
 // The largest keys of a guard, weak and strict: twice the largest constant, 4,000 in 1,031 parts, and one more where it is weak.
 pub const TOP_WEAK: u64 = 8248001;
