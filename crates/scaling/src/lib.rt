@@ -5,6 +5,9 @@ ghost use Prim.Native.Nat.{_*_, _≤_};
 ghost use Rattle.table.specs.Step.{Good};
 ghost use Rattle.scaling.specs.Scaled.{scaledOf};
 
+// The largest number of a guard: 4,000, in 1,031 parts to a tick.
+pub const MOST: u64 = 4000 * 1031;
+
 // A constant in parts.
 fn times(constant: u16, parts: u64) -> u64
     requires { ⌜ parts ≤ 1031 ⌝ }

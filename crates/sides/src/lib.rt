@@ -1,4 +1,5 @@
 // Of the guards of each step, the tightest on each clock from above and the tightest from below, as rows of keys.
+use scaling::MOST;
 use table::Relation;
 use table::Table;
 ghost use mathlib.Core.Path.{_≡_};
@@ -10,13 +11,13 @@ ghost use Rattle.scaling.specs.Constants.{tableWith};
 ghost use Rattle.sides.specs.Sides.{sideKey};
 ghost use Rattle.sides.specs.Keys.{Numbers, keysOf};
 
-// The largest keys of a guard, weak and strict: twice the largest constant, 4,000 in 1,031 parts, and one more where it is weak.
-pub const TOP_WEAK: u64 = 8248001;
+// The largest keys of a guard, weak and strict: twice the largest number, and one more where it is weak.
+pub const TOP_WEAK: u64 = 2 * MOST + 1;
 
-const TOP_STRICT: u64 = 8248000;
+const TOP_STRICT: u64 = 2 * MOST;
 
 // The key of no guard: past all others.
-pub const NONE: u64 = 8248002;
+pub const NONE: u64 = 2 * MOST + 2;
 
 // How tight a guard is from above: the smaller the tighter.
 fn upper_key(relation: Relation, constant: u64) -> u64
