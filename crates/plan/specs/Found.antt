@@ -130,7 +130,7 @@ module _ (t : Table) (v : Start) (k : ℕ) (z : Sized t k) where
     solved-answered (solution.Cycle m) f = looped m f
 
 -- ---- the rows as they were computed
-module _ (t : Table) (v : Start) (k : ℕ) (z : Sized t k) (low up far : List ℕ) (c : Computed t (partsOf t k) low up far) where
+module _ (t : Table) (v : Start) (k : ℕ) (z : Sized t k) (low up far : List ℕ) (c : Computed t k low up far) where
   same : rowsOf t v k ≡ rows low up far v (t .steps) (t .clocks) (k * t .steps)
   same =
       sym (ap (λ l. rows l up far v (t .steps) (t .clocks) (k * t .steps)) (c .below)

@@ -3,10 +3,9 @@
 use mathlib.Core.Path.{_≡_, sym, ap, subst, _∙_}
 use mathlib.Core.Bool.{Bool, true, false}
 use mathlib.Core.List.{List, map, List·Memᴰ, Memᴰ·of-map}
-use Prim.Native.Nat.{ℕ, _+_, _*_, _≤_}
+use Prim.Native.Nat.{ℕ, _+_, _*_}
 use native.Mathlib.Omega.{arith}
 use native.Mathlib.Nat.{mul-mod-left}
-use Rattle.table.specs.Step.{Good}
 use Rattle.table.specs.declared.Table.{Table}
 use Rattle.runs.specs.declared.Demand.{Demand}
 use Rattle.runs.specs.declared.Start.{Start}
@@ -86,21 +85,29 @@ module _ (t : Table) (v : Start) (k : ℕ) (z : Sized t k) where
         slight = slight;
       }
 
--- ---- the rows as they are computed, in P parts to a tick, from the row of scaled constants
-pub record Computed (t : Table) (P : ℕ) (low up far : List ℕ) : Type 0 where
-  pub below : low ≡ keysOf false (scaledTable P t)
-  pub above : up ≡ keysOf true (scaledTable P t)
+-- ---- the rows as they are computed, from the row of scaled constants
+pub record Computed (t : Table) (k : ℕ) (low up far : List ℕ) : Type 0 where
+  pub below : low ≡ keysIn false t k
+  pub above : up ≡ keysIn true t k
   pub distances : far ≡ distancesOf t
 
-module _ (t : Table) (good : Good t) (P : ℕ) (few : P ≤ 1031) (cs : List ℕ) (e : cs ≡ scaledOf P t) where
+module _ (t : Table) (k : ℕ) (z : Sized t k) (Q : ℕ) (q : Q ≡ partsOf t k) (cs : List ℕ) (e : cs ≡ scaledOf Q t) where
+  same : cs ≡ scaledOf (partsOf t k) t
+  same = e ∙ ap (λ P. scaledOf P t) q
+
   pub scaled-numbers : Numbers t cs
-  scaled-numbers = subst (Numbers t) (sym e) (record { size = scaled-size P t; small = scaled-small P t good few })
+  scaled-numbers =
+      subst (Numbers t) (sym same)
+      (record {
+        size = scaled-size (partsOf t k) t;
+        small = scaled-small (partsOf t k) t (z .good) (sized-parts t k z);
+      })
 
   pub rows-computed : (low up far : List ℕ) → low ≡ keysOf false (tableWith cs t) → up ≡ keysOf true (tableWith cs t)
-      → far ≡ distancesOf t → Computed t P low up far
+      → far ≡ distancesOf t → Computed t k low up far
   rows-computed low up far f g h =
       record {
-        below = f ∙ ap (λ l. keysOf false (tableWith l t)) e;
-        above = g ∙ ap (λ l. keysOf true (tableWith l t)) e;
+        below = f ∙ ap (λ l. keysOf false (tableWith l t)) same;
+        above = g ∙ ap (λ l. keysOf true (tableWith l t)) same;
         distances = h;
       }

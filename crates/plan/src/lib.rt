@@ -12,13 +12,11 @@ use table::Read;
 use table::Refusal;
 use table::Table;
 ghost use mathlib.Core.Path.{_≡_};
-ghost use Prim.Native.Nat.{_≤_};
-ghost use Rattle.table.specs.Step.{Good};
 ghost use Rattle.runs.specs.Demand.{startsOf};
 ghost use Rattle.constraints.specs.Sized.{Sized, Tabled, roundsOf};
 ghost use Rattle.solving.specs.Solve.{Roomy};
 ghost use Rattle.plan.specs.Answer.{rooms, Answered, admitRooms, Meets, Answers};
-ghost use Rattle.plan.specs.Rows.{rowsOf, Computed};
+ghost use Rattle.plan.specs.Rows.{rowsOf};
 ghost use Rattle.plan.specs.Found.{outcomeOf};
 
 // The answer to the question "plan for k": the parts to a tick; or the length of a loop; or why it is refused.
@@ -26,27 +24,6 @@ pub enum Outcome {
     Found(u64),
     Loop(usize),
     Refused(Refusal),
-}
-
-// What rounds of a table are solved by: for each step and clock the keys of the tightest guards from below and from above, with their
-// constants in parts, and the distance to the clock's last reset.
-pub struct TableRows {
-    pub low: [u64; 112],
-    pub up: [u64; 112],
-    pub far: [usize; 112],
-}
-
-// The rows of a table in so many parts to a tick. Each constant is scaled once, for both sides.
-pub fn rows_of(t: Table, parts: u64) -> TableRows
-    requires { ⌜ Good t × (parts ≤ 1031) ⌝ }
-    ensures { λ r. ⌜ Computed t parts (r .low) (r .up) (r .far) ⌝ }
-{
-    let constants = scaled(t, parts);
-    TableRows {
-        low: keys(t, &constants, false),
-        up: keys(t, &constants, true),
-        far: distances(t),
-    }
 }
 
 // The answer that a solution in so many parts is.
@@ -75,11 +52,14 @@ fn plan_rounds(
 {
     let total = k * t.steps;
     let parts = (total + t.clocks + 1) as u64;
-    let rows = rows_of(t, parts);
+    let constants = scaled(t, parts);
+    let low = keys(t, &constants, false);
+    let up = keys(t, &constants, true);
+    let far = distances(t);
     let found = solve_here(
-        &rows.low,
-        &rows.up,
-        &rows.far,
+        &low,
+        &up,
+        &far,
         start,
         t.steps,
         t.clocks,

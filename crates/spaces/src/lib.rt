@@ -90,12 +90,11 @@ fn solve_large(
     )
 }
 
-// The rows solved in as little space as they need: few moments in few places, since clearing many takes longer than solving. They have
-// one lifetime, so that fields of one struct can be lent.
-pub fn solve_here<'a>(
-    low: &'a [u64],
-    up: &'a [u64],
-    far: &'a [usize],
+// The rows solved in as little space as they need: few moments in few places, since clearing many takes longer than solving.
+pub fn solve_here(
+    low: &[u64],
+    up: &[u64],
+    far: &[usize],
     start: Start,
     steps: usize,
     clocks: usize,

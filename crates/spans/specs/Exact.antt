@@ -105,7 +105,7 @@ module _ (t : Table) (k : ℕ) (z : Sized t k) where
         }
 
   -- ---- the rows as they were computed
-  module _ (low up distances : List ℕ) (c : Computed t P low up distances) where
+  module _ (low up distances : List ℕ) (c : Computed t k low up distances) where
     same : stepEdges low up distances (t .steps) n K ≡ stepsOf t k
     same = rw (c .below, c .above, c .distances) refl
 

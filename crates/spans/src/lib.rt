@@ -1,9 +1,11 @@
 // When each step of k rounds may happen, counted in parts from log-in: its first moment, and its last one or that it has none.
+use last_resets::distances;
 use latest::settle;
 use lowering::NONE;
 use paths::fill;
-use plan::rows_of;
 use runs::Start;
+use scaling::scaled;
+use sides::keys;
 use solving::Solution;
 use spaces::solve_here;
 use table::Table;
@@ -18,15 +20,15 @@ ghost use Rattle.plan.specs.Rows.{rowsOf, Computed};
 ghost use Rattle.spans.specs.Exact.{Plannable, Bounding, Exact};
 
 // The last moments of the steps of k rounds that have a plan: that of step i, or NONE, at place i. The rows are those of the table.
-fn last_moments<'a>(
+fn last_moments(
     t: Table,
     k: usize,
-    low: &'a [u64],
-    up: &'a [u64],
-    far: &'a [usize],
+    low: &[u64],
+    up: &[u64],
+    far: &[usize],
     late: &mut [u64],
 ) -> bool
-    requires { ⌜ Sized t k × Plannable t k × Computed t (partsOf t k) (now low) (now up) (now far) × (partsOf t k ≤ length (now late)) ⌝ }
+    requires { ⌜ Sized t k × Plannable t k × Computed t k (now low) (now up) (now far) × (partsOf t k ≤ length (now late)) ⌝ }
     ensures { λ r. ⌜ (r ≡ true) × Bounding t k (now (late .exit)) ⌝ }
 {
     let total = k * t.steps;
@@ -38,17 +40,20 @@ fn last_moments<'a>(
 }
 
 // Whether a run of k rounds exists. Then the first moments of the steps stand in the first places of `firsts`, and the last ones in
-// those of `lasts` from place 1 on. `starts` is room for the plan. The rows are made once, for the plan and for the last moments.
+// those of `lasts` from place 1 on. `starts` is room for the plan. The constants are scaled once, for the plan and for the last moments.
 pub fn exact(t: Table, k: usize, firsts: &mut [u64], starts: &mut [u64], lasts: &mut [u64]) -> bool
     requires { ⌜ Sized t k × Roomy (rowsOf t LogIn k) (now firsts) (now starts) (now lasts) ⌝ }
     ensures { λ r. ⌜ Exact t k (now (firsts .exit)) (now (lasts .exit)) r ⌝ }
 {
     let total = k * t.steps;
-    let rows = rows_of(t, (total + t.clocks + 1) as u64);
+    let constants = scaled(t, (total + t.clocks + 1) as u64);
+    let low = keys(t, &constants, false);
+    let up = keys(t, &constants, true);
+    let far = distances(t);
     let found = solve_here(
-        &rows.low,
-        &rows.up,
-        &rows.far,
+        &low,
+        &up,
+        &far,
         Start::LogIn,
         t.steps,
         t.clocks,
@@ -58,7 +63,7 @@ pub fn exact(t: Table, k: usize, firsts: &mut [u64], starts: &mut [u64], lasts: 
         lasts,
     );
     match found {
-        Solution::Least => last_moments(t, k, &rows.low, &rows.up, &rows.far, lasts),
+        Solution::Least => last_moments(t, k, &low, &up, &far, lasts),
         Solution::Cycle(_) => false,
     }
 }

@@ -1,6 +1,7 @@
--- What solving the rows finds is the answer.
+-- The rows are those of the table, and what solving them finds is the answer.
 use mathlib.Core.Path.{refl}
 use borrow.Author.Needs.{needs}
+use Rattle.plan.specs.Rows.{scaled-numbers, Computed, rows-computed}
 use Rattle.plan.specs.Found.{rows-ready, rows-answered}
 use Rattle.plan.proofs.plan_rounds.Statement.{statement}
 use Rattle.plan.proofs.plan_rounds.Tie as tie
@@ -14,18 +15,44 @@ add-parts c = search needs
 add-parts-2 : tie.Need-add-parts-2
 add-parts-2 c = search needs
 
-rows-of-requires : tie.Need-rows-of-requires
-rows-of-requires c κs = search needs
+scaled-requires : tie.Need-scaled-requires
+scaled-requires c κs = search needs
 
--- where it began
-abbrev entry : tie.After-rows-of → tie.Start
-entry d = d .before .before .before .before .before .before
+keys-requires : tie.Need-keys-requires
+keys-requires c κs =
+    let s = c .before .before .before .before .before .before .before in (s .pre .0 .good, scaled-numbers _ _ (s .pre .0) _ refl _ (c .before .scaled .ensures))
+
+keys-requires-2 : tie.Need-keys-requires-2
+keys-requires-2 c κs =
+    let s = c .before .before .before .before .before .before .before .before .before in (s .pre .0 .good, scaled-numbers _ _ (s .pre .0) _ refl _ (c .before .before .before .scaled .ensures))
+
+distances-requires : tie.Need-distances-requires
+distances-requires c κs = search needs
+
+slice-aggregate-solve-here : tie.Need-slice-aggregate-solve-here
+slice-aggregate-solve-here c = search needs
+
+slice-aggregate-solve-here-2 : tie.Need-slice-aggregate-solve-here-2
+slice-aggregate-solve-here-2 c = search needs
+
+slice-aggregate-solve-here-3 : tie.Need-slice-aggregate-solve-here-3
+slice-aggregate-solve-here-3 c = search needs
+
+-- the rows are those of the table
+abbrev entry : tie.After-distances → tie.Start
+entry d = d .before .before .before .before .before .before .before .before .before .before .before
+
+rows : (d : tie.After-distances)
+    → Computed (entry d .args .t) (entry d .args .k) (d .before .before .before .keys .result) (d .before .keys2 .result) (d .distances .result)
+rows d =
+    rows-computed _ _ (entry d .pre .0) _ refl _ (d .before .before .before .before .before .scaled .ensures) _ _ _ (d .before .before .before .keys .ensures)
+    (d .before .keys2 .ensures) (d .distances .ensures)
 
 solve-here-requires : tie.Need-solve-here-requires
 solve-here-requires c κs =
-    let d = c .before .before .before .before .before .before .before .before .before .before in
+    let d = c .before .before .before .before .before .before in
     let s = entry d in
-    rows-ready _ _ _ (s .pre .0) (d .rows-of .result .low) (d .rows-of .result .up) (d .rows-of .result .far) (d .rows-of .ensures) _ _ _ (s .pre .1)
+    rows-ready _ _ _ (s .pre .0) _ _ _ (rows d) _ _ _ (s .pre .1)
 
 told-requires : tie.Need-told-requires
 told-requires c κs = search needs
@@ -42,9 +69,9 @@ same-length-3 c = search needs
 returns : tie.Need-returns
 returns c =
     let h = c .before .before .before .before .before .before .before in
-    let d = h .before .before .before .before .before .before .before .before .before .before .before in
+    let d = h .before .before .before .before .before .before .before in
     let s = entry d in
-    rows-answered _ _ _ (s .pre .0) _ _ _ (d .rows-of .ensures) _ _ _ (s .pre .1) _ _ _ (h .solve-here .result) _ _ (h .solve-here .ensures) refl
+    rows-answered _ _ _ (s .pre .0) _ _ _ (rows d) _ _ _ (s .pre .1) _ _ _ (h .solve-here .result) _ _ (h .solve-here .ensures) refl
     (c .told .ensures)
 
 pub plan-rounds-spec : {M : Type 1} → statement M
@@ -54,7 +81,13 @@ plan-rounds-spec =
     mul-total
     add-parts
     add-parts-2
-    rows-of-requires
+    scaled-requires
+    keys-requires
+    keys-requires-2
+    distances-requires
+    slice-aggregate-solve-here
+    slice-aggregate-solve-here-2
+    slice-aggregate-solve-here-3
     solve-here-requires
     told-requires
     same-length

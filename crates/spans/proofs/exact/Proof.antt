@@ -1,45 +1,78 @@
 -- A plan tells the first moments, and bounds the last ones; a loop leaves no run.
 use mathlib.Core.Path.{refl}
 use borrow.Author.Needs.{needs}
+use Rattle.plan.specs.Rows.{scaled-numbers, Computed, rows-computed}
 use Rattle.plan.specs.Found.{rows-ready, rows-answered}
 use Rattle.spans.specs.Exact.{plan-plannable, plan-room, plan-exact, loop-exact}
 use Rattle.spans.proofs.exact.Statement.{statement}
 use Rattle.spans.proofs.exact.Tie as tie
 
--- where the rows were made, and where it began
-abbrev made : tie.After-solve-here → tie.After-rows-of
-made h = h .before .before .before .before .before .before .before .before .before .before .before
-
-abbrev entry : tie.After-rows-of → tie.Start
-entry d = d .before .before .before .before .before .before
-
 mul-total : tie.Need-mul-total
 mul-total c = search needs
 
-add-rows-of : tie.Need-add-rows-of
-add-rows-of c = search needs
+add-scaled : tie.Need-add-scaled
+add-scaled c = search needs
 
-add-rows-of-2 : tie.Need-add-rows-of-2
-add-rows-of-2 c = search needs
+add-scaled-2 : tie.Need-add-scaled-2
+add-scaled-2 c = search needs
 
-rows-of-requires : tie.Need-rows-of-requires
-rows-of-requires c κs = search needs
+scaled-requires : tie.Need-scaled-requires
+scaled-requires c κs = search needs
+
+keys-requires : tie.Need-keys-requires
+keys-requires c κs =
+    let s = c .before .before .before .before .before .before .before in (s .pre .0 .good, scaled-numbers _ _ (s .pre .0) _ refl _ (c .before .scaled .ensures))
+
+keys-requires-2 : tie.Need-keys-requires-2
+keys-requires-2 c κs =
+    let s = c .before .before .before .before .before .before .before .before .before in (s .pre .0 .good, scaled-numbers _ _ (s .pre .0) _ refl _ (c .before .before .before .scaled .ensures))
+
+distances-requires : tie.Need-distances-requires
+distances-requires c κs = search needs
+
+slice-aggregate-solve-here : tie.Need-slice-aggregate-solve-here
+slice-aggregate-solve-here c = search needs
+
+slice-aggregate-solve-here-2 : tie.Need-slice-aggregate-solve-here-2
+slice-aggregate-solve-here-2 c = search needs
+
+slice-aggregate-solve-here-3 : tie.Need-slice-aggregate-solve-here-3
+slice-aggregate-solve-here-3 c = search needs
+
+-- the rows are those of the table
+abbrev entry : tie.After-distances → tie.Start
+entry d = d .before .before .before .before .before .before .before .before .before .before .before
+
+rows : (d : tie.After-distances)
+    → Computed (entry d .args .t) (entry d .args .k) (d .before .before .before .keys .result) (d .before .keys2 .result) (d .distances .result)
+rows d =
+    rows-computed _ _ (entry d .pre .0) _ refl _ (d .before .before .before .before .before .scaled .ensures) _ _ _ (d .before .before .before .keys .ensures)
+    (d .before .keys2 .ensures) (d .distances .ensures)
 
 solve-here-requires : tie.Need-solve-here-requires
 solve-here-requires c κs =
-    let d = c .before .before .before .before .before .before .before .before .before .before in rows-ready _ _ _ (entry d .pre .0) (d .rows-of .result .low) (d .rows-of .result .up) (d .rows-of .result .far) (d .rows-of .ensures) _ _ _ (entry d .pre .1)
+    let d = c .before .before .before .before .before .before in rows-ready _ _ _ (entry d .pre .0) _ _ _ (rows d) _ _ _ (entry d .pre .1)
 
 enum-told : tie.Need-enum-told
 enum-told c = search needs
 
+slice-aggregate-last-moments : tie.Need-slice-aggregate-last-moments
+slice-aggregate-last-moments c = search needs
+
+slice-aggregate-last-moments-2 : tie.Need-slice-aggregate-last-moments-2
+slice-aggregate-last-moments-2 c = search needs
+
+slice-aggregate-last-moments-3 : tie.Need-slice-aggregate-last-moments-3
+slice-aggregate-last-moments-3 c = search needs
+
 last-moments-requires : tie.Need-last-moments-requires
 last-moments-requires c κs =
-    let h = c .before .before .before .before .before .before .before .before .before .before .before .before .before .before .before .before in
-    let d = made h in
-    let s = entry d in
-    let a = rows-answered _ _ _ (s .pre .0) _ _ _ (d .rows-of .ensures) _ _ _ (s .pre .1) _ _ _ (h .solve-here .result) _ _ (h .solve-here .ensures) refl refl in
-    let e = c .before .before .before .before .before .before .before .before .enum-told .given .1 in
-    (s .pre .0, plan-plannable _ _ (s .pre .0) _ _ _ a e, d .rows-of .ensures, plan-room _ _ (s .pre .0) _ _ _ a e (s .pre .1 .loop))
+    let h = c .before .before .before .before .before .before .before .before .before .before .before .before in
+    let d = h .before .before .before .before .before .before .before in
+    let z = entry d .pre .0 in
+    let a = rows-answered _ _ _ z _ _ _ (rows d) _ _ _ (entry d .pre .1) _ _ _ (h .solve-here .result) _ _ (h .solve-here .ensures) refl refl in
+    let e = c .before .before .before .before .enum-told .given .1 in
+    (z, plan-plannable _ _ z _ _ _ a e, rows d, plan-room _ _ z _ _ _ a e (entry d .pre .1 .loop))
 
 enum-told-2 : tie.Need-enum-told-2
 enum-told-2 c = search needs
@@ -55,11 +88,11 @@ same-length-3 c = search needs
 
 returns : tie.Need-returns
 returns c =
-    let h = c .before .before .before .before .before .before .before .before .before .before .before .before .before .before .before .before .before .before .before in
-    let d = made h in
-    let s = entry d in
-    let a = rows-answered _ _ _ (s .pre .0) _ _ _ (d .rows-of .ensures) _ _ _ (s .pre .1) _ _ _ (h .solve-here .result) _ _ (h .solve-here .ensures) refl refl in
-    plan-exact _ _ (s .pre .0) _ _ _ a (c .before .before .before .before .before .before .before .before .before .before .before .enum-told .given .1) _ _ (c .before .before .last-moments .ensures)
+    let h = c .before .before .before .before .before .before .before .before .before .before .before .before .before .before .before in
+    let d = h .before .before .before .before .before .before .before in
+    let z = entry d .pre .0 in
+    let a = rows-answered _ _ _ z _ _ _ (rows d) _ _ _ (entry d .pre .1) _ _ _ (h .solve-here .result) _ _ (h .solve-here .ensures) refl refl in
+    plan-exact _ _ z _ _ _ a (c .before .before .before .before .before .before .before .enum-told .given .1) _ _ (c .before .before .last-moments .ensures)
 
 same-length-4 : tie.Need-same-length-4
 same-length-4 c = search needs
@@ -73,21 +106,30 @@ same-length-6 c = search needs
 returns-2 : tie.Need-returns-2
 returns-2 c =
     let h = c .before .before .before .before .before .before .before .before in
-    let d = made h in
-    let s = entry d in
-    let a = rows-answered _ _ _ (s .pre .0) _ _ _ (d .rows-of .ensures) _ _ _ (s .pre .1) _ _ _ (h .solve-here .result) _ _ (h .solve-here .ensures) refl refl in
-    loop-exact _ _ (s .pre .0) _ _ _ a _ (c .enum-told2 .given .1)
+    let d = h .before .before .before .before .before .before .before in
+    let z = entry d .pre .0 in
+    let a = rows-answered _ _ _ z _ _ _ (rows d) _ _ _ (entry d .pre .1) _ _ _ (h .solve-here .result) _ _ (h .solve-here .ensures) refl refl in
+    loop-exact _ _ z _ _ _ a _ (c .enum-told2 .given .1)
 
 pub exact-spec : {M : Type 1} → statement M
 exact-spec =
     tie.close
     (tie.spec
     mul-total
-    add-rows-of
-    add-rows-of-2
-    rows-of-requires
+    add-scaled
+    add-scaled-2
+    scaled-requires
+    keys-requires
+    keys-requires-2
+    distances-requires
+    slice-aggregate-solve-here
+    slice-aggregate-solve-here-2
+    slice-aggregate-solve-here-3
     solve-here-requires
     enum-told
+    slice-aggregate-last-moments
+    slice-aggregate-last-moments-2
+    slice-aggregate-last-moments-3
     last-moments-requires
     enum-told-2
     same-length
