@@ -1,10 +1,14 @@
 //! Times the proved libraries beside plain Rust, question by question, from log-in and in mid-shift; the panel also beside the
-//! plan of the same rounds; a scan also beside reading the same table, which each scan does; and a tray of scans also beside the same
-//! scans given singly.
+//! plan of the same rounds; a scan also beside reading the same table, which each scan does; a tray of scans also beside the same
+//! scans given singly; and cards, to tables and back.
 //!
 //! The sides take turns in the same run, each turn a batch of calls; the median batch counts. Time is that of this thread on a
 //! processor, so that other work on the machine does not count. The answers of the two must agree.
 
+#[path = "../terminal/card.rs"]
+mod card;
+#[path = "../plain/cards.rs"]
+mod cards;
 #[path = "../terminal/judge.rs"]
 mod judge;
 #[path = "../terminal/panel.rs"]
@@ -772,6 +776,55 @@ fn bench_trays() {
     println!("tray by single scans, 531 bytes: at most {most:.3}; the goal is 0.1");
 }
 
+type Convert = fn(&[u8], &mut [u8], &mut [u64]) -> bool;
+
+/// A conversion, of the library and of plain Rust. The output.
+fn bench_conversion(name: &str, input: &[u8], sides: [Convert; 2]) -> Vec<u8> {
+    let [mut a, mut b] = [([9; 4], [9; cards::CARD]); 2];
+    let convert = |side: Convert, rooms: &mut ([u64; 4], [u8; cards::CARD])| {
+        assert!(side(black_box(input), &mut rooms.1, &mut rooms.0));
+        black_box(rooms);
+    };
+    convert(sides[0], &mut a);
+    convert(sides[1], &mut b);
+    assert_eq!(a, b);
+    let (kind, output) = match a.0 {
+        [0, number, ..] => (format!("{number} bytes"), a.1[..number as usize].to_vec()),
+        [number, ..] => (format!("refused {number}"), Vec::new()),
+    };
+    let times = time([&mut || convert(sides[0], &mut a), &mut || {
+        convert(sides[1], &mut b)
+    }]);
+    show(&format!("{name}, {} bytes: {kind}", input.len()), &times);
+    output
+}
+
+/// A table to its card, and the card to the table.
+fn bench_card(name: &str, table: &[u8]) {
+    let from = [card::from_table, cards::entries::from_table];
+    let to = [card::to_table, cards::entries::to_table];
+    let text = bench_conversion(&format!("table to card, {name}"), table, from);
+    let again = bench_conversion(&format!("card to table, {name}"), &text, to);
+    assert_eq!(table, again);
+}
+
+/// Cards up to the longest, and one that is all digits.
+fn bench_cards() {
+    println!(
+        "{:<60} {:>11} {:>11} {:>6}",
+        "card", "proved ns", "plain ns", "ratio"
+    );
+    bench_card("S1", S1);
+    bench_card("5 steps", &line());
+    bench_card("64 guards", &guards_only());
+    bench_card("96 resets", &resets_only());
+    bench_card("the longest", &longest());
+    let digits = "9".repeat(cards::LONGEST - 14);
+    let text = format!("timers 1\n1 < {digits}\n");
+    let to = [card::to_table, cards::entries::to_table];
+    bench_conversion("card to table, a long number", text.as_bytes(), to);
+}
+
 fn main() {
     println!(
         "{:<60} {:>30} {:>30} {:>9}",
@@ -820,4 +873,6 @@ fn main() {
     bench_scans();
     println!();
     bench_trays();
+    println!();
+    bench_cards();
 }

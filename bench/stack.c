@@ -1,5 +1,6 @@
 /* Measures the stack that each entry takes, by painting what lies below the caller's frame and looking how far down the paint is
  * gone. Needs the static libraries; prints one line for each table and entry, and fails if one takes more than LIMIT bytes. */
+#include "../terminal/card.h"
 #include "../terminal/judge.h"
 #include "../terminal/panel.h"
 #include "../terminal/scan.h"
@@ -19,6 +20,8 @@ static uint8_t marks[PANEL_MARKS];
 static double seconds[PANEL_TIMES];
 static struct panel_widest_answer widest;
 static uint16_t running[SCAN_RUNNING], verdicts[TRAY_COUNTERS];
+static uint8_t card[CARD_CARD], converted[CARD_TABLE];
+static size_t card_length;
 
 static void ask_read(void) { judge_read(table, length, answer, 4); }
 static void ask_rounds(void) { judge_rounds(table, length, answer, 4); }
@@ -60,6 +63,9 @@ static void ask_tray(void) {
             tray_scan(table, length, counters, TRAY_COUNTERS, running, SCAN_RUNNING, verdicts, TRAY_COUNTERS, answer, 4);
         }
 }
+
+static void ask_from_table(void) { card_from_table(table, length, card, CARD_CARD, answer, 4); }
+static void ask_to_table(void) { card_to_table(card, card_length, converted, CARD_TABLE, answer, 4); }
 
 /* The bytes below this frame that a call changed, MARGIN at least. */
 static __attribute__((noinline)) size_t taken(void (*call)(void)) {
@@ -123,9 +129,11 @@ static void line(const char *name, uint64_t k) {
     rounds_asked = k;
     void (*asked[])(void) = {ask_read, ask_rounds, ask_plan, ask_demands,
                              ask_rounds_mid_shift, ask_plan_mid_shift, ask_demands_mid_shift, ask_windows, ask_widest,
-                             ask_log_in, ask_scan, ask_tray};
+                             ask_log_in, ask_scan, ask_tray, ask_from_table, ask_to_table};
+    ask_from_table();
+    card_length = answer[0] == 0 ? (size_t)answer[1] : 0;
     printf("%-44s", name);
-    for (int i = 0; i < 12; i++) {
+    for (int i = 0; i < 14; i++) {
         size_t bytes = taken(asked[i]);
         printf(" %8zu", bytes);
         if (bytes > LIMIT) failed = 1;
@@ -142,10 +150,10 @@ static void sample(const char *path, uint64_t k) {
 }
 
 int main(void) {
-    printf("%-44s %8s %26s %26s %17s %26s\n", "", "", "from log-in", "in mid-shift", "panel", "scans");
+    printf("%-44s %8s %26s %26s %17s %26s %17s\n", "", "", "from log-in", "in mid-shift", "panel", "scans", "card");
     printf("%-44s %8s", "stack in bytes", "read");
     for (int i = 0; i < 2; i++) printf(" %8s %8s %8s", "rounds", "plan", "demands");
-    printf(" %8s %8s %8s %8s %8s\n", "windows", "widest", "log-in", "scan", "tray");
+    printf(" %8s %8s %8s %8s %8s %8s %8s\n", "windows", "widest", "log-in", "scan", "tray", "written", "read");
     sample("samples/S1.table", 1024);
     sample("samples/S2.table", 2);
     sample("samples/S10.table", 2);

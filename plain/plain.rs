@@ -1,6 +1,6 @@
-//! The four questions about a timing table and the panel's two, in plain Rust and with no proofs; scans.rs beside it judges scans.
-//! The proved libraries are compared with them, in what they answer (terminal/compare.rs) and in how long they take
-//! (bench/bench.rs).
+//! The four questions about a timing table and the panel's two, in plain Rust and with no proofs; scans.rs beside it judges
+//! scans, and cards.rs converts cards. The proved libraries are compared with them, in what they answer (terminal/compare.rs) and in
+//! how long they take (bench/bench.rs).
 //!
 //! Rounds, plan and demands have two variants: runs from log-in, which sets every clock to 0, or in mid-shift, from any readings.
 //! The panel shows runs from log-in.
@@ -42,6 +42,8 @@ pub enum Fault {
     Record,
     Tray,
     Verdicts,
+    Card,
+    Output,
 }
 
 /// A fault and the place of the byte that it is found at, or 0.
@@ -264,7 +266,7 @@ pub fn spans(bytes: &[u8], k: u64) -> Result<(u64, Vec<Window<i64>>), Refusal> {
 // Reading.
 
 /// A record of a table.
-enum Record {
+pub enum Record {
     Head,
     Guard(Guard),
     Reset(u8),
@@ -273,10 +275,10 @@ enum Record {
 }
 
 /// The records of a table, from the left, each with 01's tests.
-struct Records<'a> {
+pub struct Records<'a> {
     bytes: &'a [u8],
     at: usize,
-    counted: Counted,
+    pub counted: Counted,
     /// Whether a guard or reset stands since the last finished step.
     open: bool,
     /// The clocks reset since then, as bits.
@@ -284,7 +286,7 @@ struct Records<'a> {
 }
 
 impl<'a> Records<'a> {
-    fn of(bytes: &'a [u8]) -> Result<Self, Refusal> {
+    pub fn of(bytes: &'a [u8]) -> Result<Self, Refusal> {
         if bytes.len() > LONGEST {
             return Err(Refusal {
                 fault: Fault::Length,
@@ -300,7 +302,7 @@ impl<'a> Records<'a> {
         })
     }
 
-    fn next(&mut self) -> Result<Record, Refusal> {
+    pub fn next(&mut self) -> Result<Record, Refusal> {
         let place = self.at;
         let refuse = |fault| Err(Refusal { fault, place });
         match self.bytes[place..] {

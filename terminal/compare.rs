@@ -4,11 +4,15 @@
 //! loop is held to 01's definition, since which one is written is free. Windows are also held to shortest paths over all demands
 //! (plain/windows.rs), and each second to the exact fraction that it stands for, in whole numbers. Then log-in and scans: those
 //! that are known, shifts of random tables, and running records of all kinds; and trays of scans, each also held to the same scans
-//! given singly.
+//! given singly. Last cards, to tables and back: those that are known, cards of random tables and damaged ones.
 //!
 //! Prints counts and "compare: N agreed, 0 differ". Exit status 1 where something differs, or where a kind of answer did not
 //! occur.
 
+#[path = "card.rs"]
+mod card;
+#[path = "../plain/cards.rs"]
+mod cards;
 #[path = "judge.rs"]
 mod judge;
 #[path = "panel.rs"]
@@ -60,6 +64,8 @@ struct Side {
     begin: fn(u16, &mut [u16]) -> bool,
     scan: fn(&[u8], u16, &mut [u16], &mut [u64]) -> bool,
     tray: fn(&[u8], &[u16], &mut [u16], &mut [u16], &mut [u64]) -> bool,
+    to_table: fn(&[u8], &mut [u8], &mut [u64]) -> bool,
+    from_table: fn(&[u8], &mut [u8], &mut [u64]) -> bool,
 }
 
 impl Side {
@@ -88,6 +94,8 @@ const PROVED: Side = Side {
     begin: scan::log_in,
     scan: scan::one,
     tray: tray::scan,
+    to_table: card::to_table,
+    from_table: card::from_table,
 };
 
 const PLAIN: Side = Side {
@@ -107,6 +115,8 @@ const PLAIN: Side = Side {
     begin: scans::entries::log_in,
     scan: scans::entries::scan,
     tray: scans::entries::tray,
+    to_table: cards::entries::to_table,
+    from_table: cards::entries::from_table,
 };
 
 /// Random numbers from a fixed seed (splitmix64).
@@ -932,6 +942,21 @@ const SAMPLES: [Sample; 11] = [
         (None, Some((2, 7, &[0, 21, 21, 42], &[0, 0])))
     ),
     sample!("S11", (Some(4000), None), (Some(4001), None)),
+];
+
+/// Their cards.
+const CARDS: [&str; 11] = [
+    include_str!("../samples/S1.card"),
+    include_str!("../samples/S2.card"),
+    include_str!("../samples/S3.card"),
+    include_str!("../samples/S4.card"),
+    include_str!("../samples/S5.card"),
+    include_str!("../samples/S6.card"),
+    include_str!("../samples/S7.card"),
+    include_str!("../samples/S8.card"),
+    include_str!("../samples/S9.card"),
+    include_str!("../samples/S10.card"),
+    include_str!("../samples/S11.card"),
 ];
 
 impl Compare {
@@ -2096,9 +2121,469 @@ impl Compare {
     }
 }
 
+// Cards.
+
+/// Which way is converted.
+#[derive(Clone, Copy, PartialEq, Debug)]
+enum Way {
+    ToTable,
+    FromTable,
+}
+
+impl Way {
+    fn name(self) -> &'static str {
+        match self {
+            Way::ToTable => "card to table",
+            Way::FromTable => "table to card",
+        }
+    }
+
+    fn back(self) -> Way {
+        match self {
+            Way::ToTable => Way::FromTable,
+            Way::FromTable => Way::ToTable,
+        }
+    }
+
+    fn plain(self, input: &[u8]) -> Result<Vec<u8>, plain::Refusal> {
+        match self {
+            Way::ToTable => cards::to_table(input),
+            Way::FromTable => cards::from_table(input),
+        }
+    }
+}
+
+/// The rooms of a conversion, with places around them.
+#[derive(Clone, PartialEq, Debug)]
+struct Conversion {
+    answer: Vec<u64>,
+    output: Vec<u8>,
+}
+
+impl Conversion {
+    fn ask(&self, side: &Side, way: Way, input: &[u8]) -> (bool, Conversion) {
+        let mut c = self.clone();
+        let convert = match way {
+            Way::ToTable => side.to_table,
+            Way::FromTable => side.from_table,
+        };
+        let told = convert(input, lent(&mut c.output), lent(&mut c.answer));
+        (told, c)
+    }
+}
+
+/// What is known of a conversion: the output, or the number and the place of a refusal.
+type Written<'a> = Result<&'a [u8], (u64, u64)>;
+
+/// The lines of a legal table's card, each with its line feed.
+fn lines_of(bytes: &[u8]) -> Vec<String> {
+    const SIGNS: [&str; 5] = ["<", "<=", "=", ">=", ">"];
+    let mut lines = Vec::new();
+    let mut at = 0;
+    while at < bytes.len() {
+        let (line, size) = match bytes[at..] {
+            [1, n, ..] => (format!("timers {n}\n"), 2),
+            [2, n, relation, low, high, ..] => {
+                let constant = u16::from_le_bytes([low, high]);
+                let sign = SIGNS[usize::from(relation)];
+                (format!("{n} {sign} {constant}\n"), 5)
+            }
+            [3, n, ..] => (format!("zero {n}\n"), 2),
+            [4, ..] => ("step\n".into(), 1),
+            _ => ("end\n".into(), 1),
+        };
+        lines.push(line);
+        at += size;
+    }
+    lines
+}
+
+/// A number as a card may have it: small, at a limit, beyond all bits of a machine's numbers, long, or not well formed.
+fn numeral(random: &mut Random) -> String {
+    const WIDE: [&str; 8] = [
+        "256",
+        "257",
+        "65536",
+        "65537",
+        "4294967296",
+        "4294967297",
+        "18446744073709551616",
+        "18446744073709551617",
+    ];
+    const WRONG: [&str; 8] = ["", "00", "01", "+1", "-1", "1.0", "0x1", "1 "];
+    match random.within(0, 9) {
+        0..=3 => random.within(0, 8).to_string(),
+        4 => random.within(3995, 4005).to_string(),
+        5 | 6 => WIDE[random.within(0, 7)].into(),
+        7 => {
+            let digits = [random.within(2, 30), random.within(300, 6000)][random.within(0, 1)];
+            let first = random.within(1, 9).to_string();
+            first + &random.within(0, 9).to_string().repeat(digits - 1)
+        }
+        8 => random.within(0, 70000).to_string(),
+        _ => WRONG[random.within(0, 7)].into(),
+    }
+}
+
+/// A line, well formed or nearly.
+fn any_line(random: &mut Random) -> String {
+    const SIGNS: [&str; 10] = ["<", "<=", "=", ">=", ">", "==", "=<", "=>", "<>", "! ="];
+    const WORDS: [&str; 12] = [
+        "", " ", "step ", " step", "Step", "steps", "ste", "END", "en", "end\r", "timers", "zero",
+    ];
+    let line = match random.within(0, 9) {
+        0 => format!("timers {}", numeral(random)),
+        1 | 2 => format!("zero {}", numeral(random)),
+        3 => "step".into(),
+        4 => "end".into(),
+        5 => WORDS[random.within(0, 11)].into(),
+        _ => {
+            let sign = SIGNS[if random.one_in(4) {
+                random.within(0, 9)
+            } else {
+                random.within(0, 4)
+            }];
+            format!("{} {sign} {}", numeral(random), numeral(random))
+        }
+    };
+    line + "\n"
+}
+
+/// A byte that cards have, or that is near to one.
+fn letter(random: &mut Random) -> u8 {
+    const LETTERS: &[u8] = b"  \n\n\t\r\0<>=0123456789timerszostepndTZSE+-.\x0b\xa0\xff";
+    LETTERS[random.within(0, LETTERS.len() - 1)]
+}
+
+/// Puts many lines, perhaps too many, after the first, and then one that may have several faults.
+fn too_many_lines(random: &mut Random, lines: &mut Vec<String>) {
+    let (few, many) = [(0, 3), (14, 18), (62, 66)][random.within(0, 2)];
+    let number = random.within(few, many);
+    let line = ["step\n", "1 >= 4000\n", "1 < 0\n"][random.within(0, 2)];
+    let mut more = vec![line.to_string(); number];
+    more.push(any_line(random));
+    lines.splice(1..1, more);
+}
+
+/// Text that is a card only by chance.
+fn damaged_card(random: &mut Random) -> Vec<u8> {
+    let mut lines = lines_of(&legal(random));
+    let line = random.within(0, lines.len() - 1);
+    match random.within(0, 13) {
+        0 => lines.insert(line, any_line(random)),
+        1 => lines[line] = any_line(random),
+        2 => {
+            lines.remove(line);
+        }
+        3 => {
+            let other = random.within(0, lines.len() - 1);
+            lines.swap(line, other);
+        }
+        4 => {
+            let again = lines[line].clone();
+            lines.insert(random.within(line, lines.len() - 1), again);
+        }
+        5 => too_many_lines(random, &mut lines),
+        6 => lines.push(any_line(random)),
+        7 => lines = (0..random.within(0, 9)).map(|_| any_line(random)).collect(),
+        _ => {}
+    }
+    let mut text = lines.concat().into_bytes();
+    if random.one_in(2) && !text.is_empty() {
+        let place = random.within(0, text.len() - 1);
+        match random.within(0, 7) {
+            0 => text[place] = random.next() as u8,
+            1 => text[place] = letter(random),
+            2 => text.truncate(place),
+            3 => {
+                text.remove(place);
+            }
+            4 => text.insert(place, letter(random)),
+            5 => text.insert(place, text[place]),
+            6 => {
+                let number = random.within(1, 9);
+                text.extend((0..number).map(|_| letter(random)));
+            }
+            _ => long_text(random, &mut text),
+        }
+    }
+    text
+}
+
+/// Makes a text as long as is read, or a byte less or more, or up to 20,000 bytes: by digits, line feeds, or lines.
+fn long_text(random: &mut Random, text: &mut Vec<u8>) {
+    let length = [16_383, 16_384, 16_385, random.within(16_000, 20_000)][random.within(0, 3)];
+    let more: [&[u8]; 4] = [b"7", b"\n", b"step\n", b"zero 1\n"];
+    let more = more[random.within(0, 3)];
+    let missing = length - text.len();
+    let place = random.within(0, text.len());
+    text.splice(place..place, more.iter().copied().cycle().take(missing));
+}
+
+impl Compare {
+    /// Converts, with rooms of these lengths, output and answer. The output, where there is one.
+    fn convert(&mut self, way: Way, input: &[u8], lens: [usize; 2]) -> Option<Vec<u8>> {
+        let before = Conversion {
+            output: self.random.bytes(lens[0] + 2 * AROUND, 255),
+            answer: self.random.room(lens[1] + 2 * AROUND),
+        };
+        let (told_a, a) = before.ask(&PROVED, way, input);
+        let (told_b, mut b) = before.ask(&PLAIN, way, input);
+        let roomy = lens[1] >= 4;
+        let answer: Vec<u64> = lent(&mut b.answer).iter().copied().take(4).collect();
+        let written = match answer[..] {
+            [0, number, ..] if roomy => number as usize,
+            _ => 0,
+        };
+        // What is not named as written is kept.
+        let mut kept = before.clone();
+        if roomy {
+            lent(&mut kept.answer)[..4].copy_from_slice(&answer);
+        }
+        let output = lent(&mut b.output)[..written].to_vec();
+        lent(&mut kept.output)[..written].copy_from_slice(&output);
+        self.tell(
+            (told_a, told_b) == (roomy, roomy) && a == b && b == kept,
+            &[],
+            format_args!(
+                "{} of {:.2000}, rooms {lens:?}",
+                way.name(),
+                input.escape_ascii().to_string()
+            ),
+            format_args!("{told_a} {a:?}"),
+            format_args!("{told_b} {b:?}"),
+        );
+        if !roomy {
+            self.saw(format!("{}: answer room too short", way.name()));
+            return None;
+        }
+        self.saw_refusal(way.name(), &answer);
+        if answer[0] != 0 {
+            self.saw(format!("{}: refusal {:2}", way.name(), answer[0]));
+            return None;
+        }
+        self.saw(format!("{}: answered", way.name()));
+        Some(output)
+    }
+
+    /// The same with rooms that are short, exact and longer; and back again.
+    fn convert_all(&mut self, way: Way, input: &[u8]) {
+        let length = way.plain(input).map_or(0, |output| output.len());
+        let more = self.random.within(0, 40);
+        let fewer = self.random.within(0, length);
+        let answer = self.random.within(0, 7);
+        for lens in [
+            [length + more, 4],
+            [length.saturating_sub(1), 4],
+            [fewer, 4],
+            [length, answer],
+        ] {
+            self.convert(way, input, lens);
+        }
+        if let Some(output) = self.convert(way, input, [length, 4]) {
+            let again = self.convert(way.back(), &output, [input.len(), 4]);
+            self.returns(way, input, again.as_deref());
+        }
+    }
+
+    /// What was converted, there and back, is what it was.
+    fn returns(&mut self, way: Way, input: &[u8], again: Option<&[u8]>) {
+        self.tell(
+            again == Some(input),
+            &[],
+            format_args!("{} of {}, and back", way.name(), input.escape_ascii()),
+            format_args!("{again:?}"),
+            format_args!("{again:?}"),
+        );
+    }
+
+    /// Both sides convert as is known: in rooms that are exact and longer, and in one that is too short; a refusal comes before that.
+    fn named_conversion(&mut self, way: Way, input: &[u8], known: Written) {
+        let length = known.map_or(9, |output| output.len());
+        for places in [0, length - 1, length, length + 1, length + 2000] {
+            let before = Conversion {
+                output: self.random.bytes(places + 2 * AROUND, 255),
+                answer: self.random.room(4 + 2 * AROUND),
+            };
+            let mut expected = before.clone();
+            let answer = match known {
+                Err((number, place)) => [number, place, 0, 0],
+                Ok(_) if places < length => [21, 0, 0, 0],
+                Ok(output) => {
+                    lent(&mut expected.output)[..length].copy_from_slice(output);
+                    [0, length as u64, 0, 0]
+                }
+            };
+            lent(&mut expected.answer).copy_from_slice(&answer);
+            let told = [PROVED, PLAIN].map(|side| before.ask(&side, way, input));
+            self.tell(
+                told.iter().all(|t| *t == (true, expected.clone())),
+                &[],
+                format_args!(
+                    "{} of {:.2000}, room {places}, known {answer:?}",
+                    way.name(),
+                    input.escape_ascii().to_string()
+                ),
+                format_args!("{:?}", told[0]),
+                format_args!("{:?}", told[1]),
+            );
+        }
+    }
+
+    /// A card and its table, both ways.
+    fn named_card(&mut self, card: &str, table: &[u8]) {
+        self.named_conversion(Way::ToTable, card.as_bytes(), Ok(table));
+        self.named_conversion(Way::FromTable, table, Ok(card.as_bytes()));
+    }
+
+    fn refused_card(&mut self, card: &str, number: u64, place: u64) {
+        self.named_conversion(Way::ToTable, card.as_bytes(), Err((number, place)));
+    }
+
+    /// The samples; the signs; the order within a step; and the longest card.
+    fn cards_known(&mut self) {
+        for (sample, card) in SAMPLES.iter().zip(CARDS) {
+            self.named_card(card, sample.bytes);
+        }
+        self.named_card("timers 6\nstep\nend\n", &[1, 6, 4, 5]);
+        let every_sign = "timers 1\n1 < 0\n1 <= 1\n1 = 255\n1 >= 256\n1 > 4000\nstep\nend\n";
+        let guards = [
+            guard(1, UNDER, 0),
+            guard(1, AT_MOST, 1),
+            guard(1, EXACTLY, 255),
+            guard(1, AT_LEAST, 256),
+            guard(1, OVER, 4000),
+        ];
+        self.named_card(every_sign, &table(1, &[guards.to_vec()]));
+        let mixed = "timers 2\nzero 2\n1 < 3\nzero 1\n2 > 4\nstep\nstep\nzero 2\nstep\nend\n";
+        let first = vec![reset(2), guard(1, UNDER, 3), reset(1), guard(2, OVER, 4)];
+        let mixed_table = table(2, &[first, vec![], vec![reset(2)]]);
+        self.named_card(mixed, &mixed_table);
+        let resets: Vec<_> = (1..=6).map(reset).collect();
+        let guards: Vec<_> = (1..=4).map(|j| guard(j, AT_LEAST, 4000)).collect();
+        let longest = table(6, &vec![[guards, resets].concat(); 16]);
+        let card = lines_of(&longest).concat();
+        assert_eq!((longest.len(), card.len()), (cards::TABLE, cards::CARD));
+        self.named_card(&card, &longest);
+        let bounds = "timers 1\n".to_string() + &"1 = 7\n".repeat(64) + "step\nend\n";
+        self.named_card(&bounds, &table(1, &[vec![guard(1, EXACTLY, 7); 64]]));
+        let steps = "timers 1\n".to_string() + &"step\n".repeat(16) + "end\n";
+        self.named_card(&steps, &table(1, &vec![vec![]; 16]));
+    }
+
+    /// Each refusal, and what is refused first.
+    fn cards_refused(&mut self) {
+        // The text stops, or its last line has no line feed.
+        let whole = "timers 2\n1 >= 3\nzero 1\nstep\nend\n";
+        for end in 0..whole.len() {
+            let start = whole[..end].rfind('\n').map_or(0, |at| at + 1);
+            let number = if start == end { 2 } else { 20 };
+            self.refused_card(&whole[..end], number, start as u64);
+        }
+        // The first line; a second such line.
+        for head in ["timers 0", "timers 7", "timers 18446744073709551617"] {
+            self.refused_card(&format!("{head}\n"), 4, 0);
+        }
+        for head in ["7 < 9", "step", "zero 9", "1 < 9999", "end"] {
+            self.refused_card(&format!("{head}\n"), 4, 0);
+        }
+        for head in ["seven", "", "timers", "timers ", "Timers 1", "timers 01"] {
+            self.refused_card(&format!("{head}\nstep\nend\n"), 20, 0);
+        }
+        // A second line of a card with one timer, by itself, and where more faults follow.
+        for (line, number) in [
+            ("timers 1", 4),
+            ("timers 9", 4),
+            ("0 < 1", 6),
+            ("2 < 1", 6),
+            ("7 < 5000", 6),
+            ("257 < 1", 6),
+            ("zero 0", 6),
+            ("zero 2", 6),
+            ("zero 65537", 6),
+            ("1 < 4001", 8),
+            ("1 < 65536", 8),
+            ("1 > 18446744073709551616", 8),
+            ("end", 9),
+            ("zero 1\nend", 9),
+            ("1 < 1\nend", 9),
+            ("step\nzero 1\nend", 9),
+            ("step\n1 <= 0\nend", 9),
+            ("zero 1\nzero 1", 16),
+            ("zero 1\n1 < 1\nzero 1", 16),
+            ("", 20),
+            ("x", 20),
+            (" step", 20),
+            ("step ", 20),
+            ("step\r", 20),
+            ("STEP", 20),
+            ("end ", 20),
+            ("zero", 20),
+            ("zero ", 20),
+            ("zero  1", 20),
+            ("zero\t1", 20),
+            ("zero 01", 20),
+            ("zero 1 ", 20),
+            ("zero 1 1", 20),
+            ("1 < ", 20),
+            ("1 <", 20),
+            (" < 1", 20),
+            ("1<1", 20),
+            ("1 <1", 20),
+            ("1< 1", 20),
+            ("1  < 1", 20),
+            ("1 <  1", 20),
+            ("1 < = 1", 20),
+            ("1 =< 1", 20),
+            ("1 => 1", 20),
+            ("1 == 1", 20),
+            ("1 < +1", 20),
+            ("1 < -1", 20),
+            ("1 < 00", 20),
+            ("01 < 1", 20),
+            ("1 < 1\t", 20),
+            ("1 < 1 < 1", 20),
+        ] {
+            let before = line.rfind('\n').map_or(0, |at| at + 1);
+            for after in ["\n", "\nx", "\nend\n", "\ntimers 1\n\n"] {
+                let card = format!("timers 1\n{line}{after}");
+                self.refused_card(&card, number, 9 + before as u64);
+            }
+        }
+        // After "end".
+        for after in ["\n", "x", "end\n", " ", "\0", "timers 1\n"] {
+            self.refused_card(&format!("timers 1\nstep\nend\n{after}"), 10, 18);
+            self.refused_card(&format!("timers 1\nend\n{after}"), 9, 9);
+        }
+        // Limits.
+        for line in ["1 = 7", "9 = 7", "1 = 9999"] {
+            let card = "timers 1\n".to_string() + &"1 = 7\n".repeat(64) + line + "\n";
+            self.refused_card(&card, 5, 393);
+        }
+        let card = "timers 1\n".to_string() + &"step\n".repeat(17) + "end\n";
+        self.refused_card(&card, 9, 89);
+        for digits in [20, 6000] {
+            let nines = "9".repeat(digits);
+            self.refused_card(&format!("timers {nines}\n"), 4, 0);
+            self.refused_card(&format!("timers 1\nzero {nines}\n"), 6, 9);
+            self.refused_card(&format!("timers 1\n{nines} < 1\n"), 6, 9);
+            self.refused_card(&format!("timers 1\n1 < {nines}\n"), 8, 9);
+            self.refused_card(&format!("timers 1\n1 < 0{nines}\n"), 20, 9);
+        }
+        // Too long is told first.
+        for (text, place) in [("\n", 0), ("timers 1\nstep\nend\n", 18)] {
+            let number = if place == 0 { 20 } else { 10 };
+            let most = text.to_string() + &"\n".repeat(cards::LONGEST - text.len());
+            self.refused_card(&most, number, place);
+            self.refused_card(&(most.clone() + "\n"), 20, 16_384);
+            self.refused_card(&most.repeat(5), 20, 16_384);
+        }
+    }
+}
+
 /// What must occur: every refusal, and in both variants every kind of answer.
 fn kinds() -> impl Iterator<Item = String> {
-    let refusals = (1..=19).map(|number| format!("refusal {number:2}"));
+    let refusals = (1..=21).map(|number| format!("refusal {number:2}"));
     let answers = STARTS.into_iter().flat_map(|start| {
         [
             ("rounds", "without end"),
@@ -2138,16 +2623,32 @@ fn kinds() -> impl Iterator<Item = String> {
         "tray: refused",
         "tray: a room too short",
     ];
+    let cards = [
+        (Way::ToTable, vec![2, 4, 5, 6, 8, 9, 10, 16, 20, 21]),
+        (Way::FromTable, vec![1, 2, 3, 4, 5, 6, 7, 8, 9, 10, 16, 21]),
+    ]
+    .into_iter()
+    .flat_map(|(way, numbers)| {
+        let refusals = numbers
+            .into_iter()
+            .map(|number| format!("refusal {number:2}"));
+        ["answered".into(), "answer room too short".into()]
+            .into_iter()
+            .chain(refusals)
+            .map(move |kind| format!("{}: {kind}", way.name()))
+    });
     refusals
         .chain(answers)
         .chain(panel.map(String::from))
         .chain(scans.map(String::from))
         .chain(trays.map(String::from))
+        .chain(cards)
 }
 
 fn main() {
     let (legal_tables, damaged_tables, panel_tables) = (4000, 4000, 6000);
     let (scan_tables, tray_tables) = (8000, 4000);
+    let (legal_cards, damaged_cards) = (8000, 40_000);
     let mut compare = Compare {
         random: Random(20),
         agreed: 0,
@@ -2218,9 +2719,23 @@ fn main() {
             compare.any_tray(&bytes);
         }
     }
+    compare.cards_known();
+    compare.cards_refused();
+    for _ in 0..legal_cards {
+        let bytes = legal(&mut compare.random);
+        let card = lines_of(&bytes).concat().into_bytes();
+        compare.convert_all(Way::FromTable, &bytes);
+        compare.convert_all(Way::ToTable, &card);
+        let bytes = damaged(&mut compare.random);
+        compare.convert_all(Way::FromTable, &bytes);
+    }
+    for _ in 0..damaged_cards {
+        let card = damaged_card(&mut compare.random);
+        compare.convert_all(Way::ToTable, &card);
+    }
     println!(
         "{} samples and the limits, {legal_tables} legal tables, {damaged_tables} damaged ones, {panel_tables} for the panel, \
-         {scan_tables} of both sorts for scans and {tray_tables} for trays",
+         {scan_tables} of both sorts for scans and {tray_tables} for trays, {legal_cards} cards and {damaged_cards} damaged ones",
         SAMPLES.len()
     );
     for (what, number) in &compare.seen {

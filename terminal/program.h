@@ -15,22 +15,28 @@ static size_t table_len;
 
 #define ROOM(a) (a), sizeof(a) / sizeof *(a)
 
-/* The table's bytes, as many as there is room for, from a file or with "-" from standard input. */
-static bool load(const char *name)
+/* Bytes, as many as there is room for, from a file or with "-" from standard input. */
+static bool load_into(const char *name, uint8_t *bytes, size_t room, size_t *len)
 {
     bool standard = strcmp(name, "-") == 0;
     FILE *file = standard ? stdin : fopen(name, "rb");
     if (file == NULL)
         return false;
-    table_len = fread(table, 1, sizeof table, file);
+    *len = fread(bytes, 1, room, file);
     bool whole = !ferror(file);
     if (!standard)
         fclose(file);
     return whole;
 }
 
+/* The table's bytes. */
+static bool load(const char *name)
+{
+    return load_into(name, table, sizeof table, &table_len);
+}
+
 /* A number in decimal digits and nothing else. */
-static bool number(const char *text, uint64_t *value)
+static inline bool number(const char *text, uint64_t *value)
 {
     char *end;
     if (*text < '0' || *text > '9')
@@ -40,7 +46,7 @@ static bool number(const char *text, uint64_t *value)
     return errno == 0 && *end == '\0';
 }
 
-static const char *plural(uint64_t n)
+static inline const char *plural(uint64_t n)
 {
     return n == 1 ? "" : "s";
 }
@@ -56,7 +62,8 @@ static const char *reason(uint64_t refusal)
         "the room for moments is too short", "the room for starts is too short", "the room for a loop is too short",
         "the room for demands is too short", "the clock is reset already in the same step",
         "the running record fits no step of the table, or has a reading above 4,001",
-        "there are more than 256 scans in the tray", "the room for verdicts is too short",
+        "there are more than 256 scans in the tray", "the room for verdicts is too short", "the text is not a card",
+        "the room for the output is too short",
     };
     return refusal < sizeof reasons / sizeof *reasons ? reasons[refusal] : "for an unknown reason";
 }

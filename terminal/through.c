@@ -1,5 +1,6 @@
-/* The entries, called as judge.h, panel.h, scan.h and tray.h declare them: compare.rs, trials.rs and bench.rs link this file and
- * call the libraries through it. */
+/* The entries, called as judge.h, panel.h, scan.h, tray.h and card.h declare them: compare.rs, trials.rs and bench.rs link this file
+ * and call the libraries through it. */
+#include "card.h"
 #include "judge.h"
 #include "panel.h"
 #include "scan.h"
@@ -73,6 +74,17 @@ bool through_tray(const uint8_t *table, size_t table_len, const uint16_t *counte
     return tray_scan(table, table_len, counters, counters_len, running, running_len, verdicts, verdicts_len, answer, answer_len);
 }
 
+bool through_to_table(const uint8_t *card, size_t card_len, uint8_t *table, size_t table_len, uint64_t *answer, size_t answer_len)
+{
+    return card_to_table(card, card_len, table, table_len, answer, answer_len);
+}
+
+bool through_from_table(const uint8_t *table, size_t table_len, uint8_t *card, size_t card_len, uint64_t *answer,
+                        size_t answer_len)
+{
+    return card_from_table(table, table_len, card, card_len, answer, answer_len);
+}
+
 /* No argument and no result is converted on the way. */
 #define SAME(declared, ours) _Static_assert(_Generic(&declared, __typeof__(&ours): 1, default: 0), #declared)
 SAME(judge_read, through_read);
@@ -87,6 +99,8 @@ SAME(panel_widest, through_widest);
 SAME(scan_log_in, through_log_in);
 SAME(scan_one, through_scan);
 SAME(tray_scan, through_tray);
+SAME(card_to_table, through_to_table);
+SAME(card_from_table, through_from_table);
 
 /* The record as panel.rs has it: five places of eight bytes, in this order. */
 #define AT(field, number, type)                                                                            \

@@ -9,7 +9,8 @@ use Rattle.table.specs.declared.Read.the-variants as read
 use Rattle.records.specs.declared.Verdict.{Verdict}
 use Rattle.records.specs.Rules.{bodySize}
 use Rattle.wire.specs.Records.{Record, recordAt, recordsFrom, records}
-use Rattle.wire.specs.Reading.{byte, judgeOf, check, start, readOf}
+use Rattle.records.specs.Checking.{start, checkOf}
+use Rattle.wire.specs.Reading.{byte, judgeOf, check, readOf}
 use Rattle.wire.specs.Laws.{onward, read-short, counted-short}
 use Rattle.wire.specs.Listing.{Listing, stepsIn, listing, guardsOf}
 use Rattle.format.specs.Encode.{encode, guardCount, Legal}
@@ -62,9 +63,10 @@ written-judged bytes r rs first b f n L g (is-head m _ shape low high) q =
     whole : encode (record { clocks = m; steps = stepsIn [] rs }) ≡ bytes
     whole = ap (λ bs. 1 ∷ m ∷ bs) (sym (w .written)) ∙ ap (λ x. bytesIn (x ∷ rs)) (sym shape) ∙ b
 
-written-checked : (bytes : List ℕ) → Bytes bytes → (n L g : ℕ)
+-- the same by the records alone, whatever their length
+pub written-checked : (bytes : List ℕ) → Bytes bytes → (n L g : ℕ)
     → check (length bytes) start (records bytes) ≡ read.Counted n L g → Written (listing bytes) bytes n L g
-unfolding check recordsFrom listing
+unfolding checkOf recordsFrom listing
 written-checked [] h n L g e = refused-counted e
 written-checked (k ∷ rest) h n L g e =
     let r = recordAt 0 k rest in

@@ -13,7 +13,8 @@ use Rattle.records.specs.declared.Verdict.{Verdict}
 use Rattle.records.specs.declared.Verdict.the-variants.{Refused, Next, Last}
 use Rattle.records.specs.Rules.{bodySize}
 use Rattle.wire.specs.Records.{Record, recordsAt, records, records-next}
-use Rattle.wire.specs.Reading.{judgeOf, tail, check, start, readOf}
+use Rattle.records.specs.Checking.{start}
+use Rattle.wire.specs.Reading.{judgeOf, tail, check, readOf}
 use Rattle.wire.specs.Laws.{onward, check-on, check-out, tail-more, tail-none, read-short}
 use Rattle.format.specs.Shapes.{refused-counted}
 use Rattle.format.specs.Reach.{recordOf, after}

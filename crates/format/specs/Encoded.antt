@@ -19,7 +19,8 @@ use Rattle.records.specs.declared.Verdict.the-variants.{Next, Last}
 use Rattle.records.specs.Rules.{isFree, marked, headed, guarded, cleared, finished, ended}
 use Rattle.records.specs.Marks.{all-free, marked-other}
 use Rattle.wire.specs.Records.{recordsFrom}
-use Rattle.wire.specs.Reading.{wholeOf, judgeOf, check, start, readOf}
+use Rattle.records.specs.Checking.{start}
+use Rattle.wire.specs.Reading.{wholeOf, judgeOf, check, readOf}
 use Rattle.wire.specs.Laws.{read-short}
 use Rattle.wire.specs.Listing.{Entry, guard, reset, Listing, stepsIn, listing, guardsOf, resetsOf}
 use Rattle.format.specs.Encode.{

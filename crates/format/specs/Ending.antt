@@ -26,6 +26,7 @@ use Rattle.records.specs.declared.Verdict.{Verdict}
 use Rattle.records.specs.Rules.{isFree, marked}
 use Rattle.records.specs.Marks.{marked-same, marked-keeps, marked-some}
 use Rattle.wire.specs.Records.{Record}
+use Rattle.records.specs.Checking.{checkOf}
 use Rattle.wire.specs.Reading.{judgeOf, tail, check}
 use Rattle.wire.specs.Laws.{onward}
 use Rattle.wire.specs.Listing.{Entry, guard, reset, stepsIn, guardsOf, resetsOf}
@@ -235,7 +236,7 @@ module _ (len n L g : ℕ) where
   pub ends : (rs : List Record) → ((r : Record) → List·Memᴰ r rs → Located 1 r)
       → (t : Tally) (begun : List Entry) → Kept t begun → check len t rs ≡ read.Counted n L g
       → Ends t begun (bytesIn rs) (stepsIn begun rs) n L g
-  unfolding check
+  unfolding checkOf
   ends [] f t begun k e = refused-counted e
   ends (r ∷ rs) f t begun k e =
       let h = f r (List·Memᴰ·head refl) in

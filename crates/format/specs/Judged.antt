@@ -13,10 +13,10 @@ use Rattle.table.specs.declared.Refusal.{Refusal}
 use Rattle.records.specs.declared.Tally.{Tally}
 use Rattle.records.specs.declared.Verdict.{Verdict}
 use Rattle.records.specs.declared.Verdict.the-variants.{Refused, Next, Last}
-use Rattle.records.specs.Rules.{bodySize, need, within, isFree, marked, headed, guarded, cleared, finished, ended, relationOf}
+use Rattle.records.specs.Rules.{bodySize, need, within, isFree, marked, headed, guarded, cleared, finished, ended, relationOf, agree}
 use Rattle.records.specs.Tests.{both}
 use Rattle.wire.specs.Records.{Record}
-use Rattle.wire.specs.Reading.{agree, byte, constantOf, wholeOf, judgeOf}
+use Rattle.wire.specs.Reading.{byte, constantOf, wholeOf, judgeOf}
 use Rattle.wire.specs.Listing.{Entry, guard, reset, guardIn}
 use Rattle.format.specs.Encode.{relationCode, LegalEntry}
 use Rattle.wire.specs.Records.{Bytes}
@@ -44,7 +44,7 @@ pub data Told (t : Tally) (r : Record) : Verdict → Type 0 where
   is-end : 0 < r .place → r ≡ endAt (r .place) → 1 ≤ t .steps → t .pending ≡ 0 → Told t r Last
 
 -- what a test that holds tells
-within-true : (low x high : ℕ) → within low x high ≡ true → (low ≤ x) × (x ≤ high)
+pub within-true : (low x high : ℕ) → within low x high ≡ true → (low ≤ x) × (x ≤ high)
 within-true low x high e =
     let h = both (leb low x) (leb x high) e in
     (leb-true low x (h .0), leb-true x high (h .1))

@@ -10,7 +10,8 @@ use Rattle.table.specs.declared.Relation.the-variants.{AtMost}
 use Rattle.table.specs.declared.Read.the-variants as read
 use Rattle.records.specs.Rules.{isFree, marked, headed, guarded, cleared, finished, ended}
 use Rattle.wire.specs.Records.{recordsFrom}
-use Rattle.wire.specs.Reading.{wholeOf, judgeOf, check, readOf}
+use Rattle.records.specs.Checking.{checkOf}
+use Rattle.wire.specs.Reading.{wholeOf, judgeOf, readOf}
 use Rattle.wire.specs.Listing.{Entry, guard, reset, Listing, guardsOf, resetsOf}
 use Rattle.format.specs.Encode.{entryBytes, stepBytes, stepsBytes, encode, guardCount, LegalEntry, LegalStep, LegalSteps, Legal}
 
@@ -52,13 +53,13 @@ unfolding encode
 longest l h = omega (arith, steps-length (l .clocks) (l .steps) (h .clocks-few) (h .each))
 
 -- One table has as many, and is accepted.
-step : List Entry
-step = replicate 4 (guard (record { clock = 1; relation = AtMost; constant = 4000 }))
+unfoldable pub fullStep : List Entry
+fullStep = replicate 4 (guard (record { clock = 1; relation = AtMost; constant = 4000 }))
     ++ (reset 1 ∷ reset 2 ∷ reset 3 ∷ reset 4 ∷ reset 5 ∷ reset 6 ∷ [])
 
-pub full : List ℕ
-full = encode (record { clocks = 6; steps = replicate 16 step })
+unfoldable pub full : List ℕ
+full = encode (record { clocks = 6; steps = replicate 16 fullStep })
 
 pub full-longest : (length full ≡ 531) × (readOf full ≡ read.Counted 6 16 64)
-unfolding full step encode stepsBytes stepBytes readOf check judgeOf wholeOf recordsFrom headed guarded cleared finished ended isFree marked
+unfolding full fullStep encode stepsBytes stepBytes readOf checkOf judgeOf wholeOf recordsFrom headed guarded cleared finished ended isFree marked
 full-longest = (refl, refl)

@@ -6,9 +6,8 @@ use lib.Dec.{eqb}
 use lib.ListN.{getD, drop}
 use Rattle.table.specs.Refusal.{numberOf}
 use Rattle.table.specs.declared.Refusal.{Refusal}
-use Rattle.records.specs.Rules.{bodySize, within}
+use Rattle.records.specs.Rules.{bodySize, within, agree}
 use Rattle.wire.specs.Records.{Record, recordAt}
-use Rattle.wire.specs.Reading.{agree}
 
 -- the record that begins at a place, and the place after it
 abbrev pub recordOf : List ℕ → ℕ → Record

@@ -15,9 +15,9 @@ use Rattle.table.specs.declared.Refusal.{Refusal}
 use Rattle.records.specs.declared.Tally.{Tally}
 use Rattle.records.specs.declared.Verdict.{Verdict}
 use Rattle.records.specs.declared.Verdict.the-variants.{Refused, Next, Last}
-use Rattle.records.specs.Rules.{bodySize, need, within, isFree, headed, guarded, cleared, finished, ended}
+use Rattle.records.specs.Rules.{bodySize, need, within, isFree, headed, guarded, cleared, finished, ended, agree}
 use Rattle.wire.specs.Records.{Record}
-use Rattle.wire.specs.Reading.{agree, byte, constantOf, wholeOf, judgeOf}
+use Rattle.wire.specs.Reading.{byte, constantOf, wholeOf, judgeOf}
 use Rattle.records.specs.Tests.{both}
 use Rattle.format.specs.Shapes.{false-true}
 use Rattle.format.specs.Reach.{stands}

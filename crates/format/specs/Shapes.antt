@@ -11,7 +11,8 @@ use Rattle.table.specs.declared.Refusal.{Refusal}
 use Rattle.table.specs.declared.Read.the-variants as read
 use Rattle.records.specs.declared.Tally.{Tally}
 use Rattle.records.specs.declared.Verdict.{Verdict}
-use Rattle.records.specs.declared.Verdict.the-variants.{Refused, Next, Last}
+use Rattle.records.specs.declared.Verdict.the-variants.{Refused}
+use Rattle.records.specs.Checking as checking
 use Rattle.wire.specs.Records.{Record}
 use Rattle.wire.specs.Reading.{judgeOf, check}
 use Rattle.wire.specs.Laws.{onward}
@@ -94,10 +95,7 @@ content-entry at (reset j) = refl
 -- how the answer goes on from a verdict, and the steps from an entry
 pub check-judged : (len : ℕ) (t : Tally) (r : Record) (rs : List Record) (v : Verdict) → judgeOf t r ≡ v
     → check len t (r ∷ rs) ≡ onward len t rs v
-unfolding check
-check-judged len t r rs (Refused f) e = rw (e, check)
-check-judged len t r rs (Next u) e = rw (e, check)
-check-judged len t r rs Last e = rw (e, check)
+check-judged = checking.check-judged (λ r. r .place) judgeOf
 
 pub steps-entry : (begun : List Entry) (at : ℕ) (e : Entry) (rs : List Record)
     → stepsIn begun (entryAt at e ∷ rs) ≡ stepsIn (begun ++ (e ∷ [])) rs

@@ -25,7 +25,7 @@ abbrev faults : List Fault
 faults =
     fault.Length ∷ fault.Cut ∷ fault.Kind ∷ fault.Head ∷ fault.Bounds ∷ fault.Timer ∷ fault.Relation ∷ fault.Constant
     ∷ fault.Steps ∷ fault.Tail ∷ fault.Rounds ∷ fault.Times ∷ fault.Starts ∷ fault.Loop ∷ fault.List ∷ fault.Twice
-    ∷ fault.Record ∷ fault.Tray ∷ fault.Verdicts ∷ []
+    ∷ fault.Record ∷ fault.Tray ∷ fault.Verdicts ∷ fault.Card ∷ fault.Output ∷ []
 
 -- an answer from its numbers: a refusal, unless the first is 0
 abbrev answerFrom : {A : Type 0} → (Refusal → A) → (ℕ → ℕ → ℕ → A) → List ℕ → A
@@ -59,6 +59,8 @@ refused-from refused other f = go (f .fault) (f .place)
     go fault.Record place = refl
     go fault.Tray place = refl
     go fault.Verdicts place = refl
+    go fault.Card place = refl
+    go fault.Output place = refl
 
 -- what can be made again from its numbers is the only one with these numbers
 only : {A : Type 0} (numbers : A → List ℕ) (from : List ℕ → A) → ((a : A) → from (numbers a) ≡ a)

@@ -33,6 +33,8 @@ number-some fault.Twice = omega arith
 number-some fault.Record = omega arith
 number-some fault.Tray = omega arith
 number-some fault.Verdicts = omega arith
+number-some fault.Card = omega arith
+number-some fault.Output = omega arith
 
 -- a refusal for a fault, with place 0
 abbrev pub atStart : Fault → Refusal

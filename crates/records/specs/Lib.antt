@@ -1,3 +1,4 @@
 pub mod Rules
+pub mod Checking
 pub mod Marks
 pub mod Tests

@@ -1,5 +1,5 @@
 -- The tests of one record, whose fields are numbers: in the order of 01's rows, from the left, and the first fault counts.
-use mathlib.Core.Bool.{Bool, true, false, cond, _&&_}
+use mathlib.Core.Bool.{Bool, true, false, cond, not, _&&_}
 use Prim.Native.Nat.{ℕ, _+_, _/_, _%_, _^_}
 use lib.Bits.{bitOr}
 use lib.Dec.{eqb, ltb, leb}
@@ -23,6 +23,15 @@ relationOf c = cond (eqb c 0) Under (cond (eqb c 1) AtMost (cond (eqb c 2) Exact
 abbrev pub need : Bool → Fault → ℕ → Verdict → Verdict
 need true f place then = then
 need false f place then = Refused (record { fault = f; place = place })
+
+-- both tests hold, or neither
+abbrev pub agree : Bool → Bool → Bool
+agree true b = b
+agree false b = not b
+
+-- a head is the first record, at place 0, and no other is
+abbrev pub inOrder : Bool → ℕ → Verdict → Verdict
+inOrder isHead place then = need (agree (eqb place 0) isHead) fault.Head place then
 
 -- a number from one to another
 abbrev pub within : ℕ → ℕ → ℕ → Bool

@@ -11,7 +11,8 @@ use Rattle.runs.specs.Start.{start-upper}
 use Rattle.runs.specs.Tools.{Every, every-nil, every-cons}
 use Rattle.wire.specs.Records.{recordsFrom}
 use Rattle.records.specs.Rules.{isFree, marked, headed, guarded, finished, ended, cleared}
-use Rattle.wire.specs.Reading.{wholeOf, judgeOf, check, readOf}
+use Rattle.records.specs.Checking.{checkOf}
+use Rattle.wire.specs.Reading.{wholeOf, judgeOf, readOf}
 use Rattle.wire.specs.Listing.{stepsIn, listing, guardsOf, flagged, stepOf}
 use Rattle.format.specs.Fair.{legal-clocks, legal-fair}
 use Rattle.rounds.specs.Answer.{Counts}
@@ -107,7 +108,7 @@ each-is (s ∷ ss) (e ∷ es) h =
 -- The evidence is computed to be right,
 computed : each samples evidence ≡ true
 unfolding each shown samples evidence accepts tells all some below
-    recordsFrom isFree marked headed guarded cleared finished ended wholeOf judgeOf check readOf stepsIn listing guardsOf flagged stepOf
+    recordsFrom isFree marked headed guarded cleared finished ended wholeOf judgeOf checkOf readOf stepsIn listing guardsOf flagged stepOf
     zeroed copies guardsDemands stepsDemands anyStarts zeroStarts startDemands demands
     atMost same old may after walks end begins alike leads contradicts runs repeats
 computed = refl

@@ -15,7 +15,7 @@ use Rattle.runs.specs.Tools.{every-cons}
 use Rattle.runs.specs.Satisfies.{Satisfies}
 use Rattle.runs.specs.Parts.{gain, loss, holds-parts, parts-negative, negative-parts}
 use Rattle.runs.specs.Refutes.{exists-satisfies}
-use Rattle.wire.specs.Reading.{agree}
+use Rattle.records.specs.Rules.{agree}
 use Rattle.samples.specs.Checks.{both, three, all, all-every, some, some-member}
 
 -- two demands are the same

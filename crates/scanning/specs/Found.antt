@@ -14,7 +14,8 @@ use Rattle.records.specs.declared.Tally.{Tally}
 use Rattle.records.specs.declared.Verdict.{Verdict}
 use Rattle.records.specs.Rules.{bodySize}
 use Rattle.wire.specs.Records.{Bytes, Record, recordAt, recordsFrom, records}
-use Rattle.wire.specs.Reading.{judgeOf, tail, check, start, readOf}
+use Rattle.records.specs.Checking.{start, checkOf}
+use Rattle.wire.specs.Reading.{judgeOf, tail, check, readOf}
 use Rattle.wire.specs.Laws.{onward, read-short, counted-short}
 use Rattle.wire.specs.Listing.{Entry, guard, reset, entry, contentOf, stepsIn, listing, guardsOf}
 use Rattle.format.specs.Encode.{LegalEntry}
@@ -240,7 +241,7 @@ module _ (step : ℕ) (readings : List ℕ) (ticks : ℕ) where
 
       under-way : (rs : List Record) → Later rs → (t : Tally) (p : Progress) (begun : List Entry) → t .guards ≤ 64 → UnderWay t begun p
           → Accepted t rs → Found (followed step readings ticks t p rs) (getD (stepsIn begun rs) 0 [])
-      unfolding check
+      unfolding checkOf
       under-way [] f t p begun room w e = refused-counted e
       under-way (r ∷ rs) f t p begun room w e =
           rw (follow-one step readings ticks t p r rs)
@@ -292,7 +293,7 @@ module _ (step : ℕ) (readings : List ℕ) (ticks : ℕ) where
       waiting : (rs : List Record) → Later rs → (t : Tally) (p : Progress) (begun : List Entry) (i : ℕ) → t .guards ≤ 64 → t .clocks ≡ n
           → p .on ≡ false → p .failing ≡ 0 → t .steps + 2 + i ≡ step
           → Accepted t rs → Found (followed step readings ticks t p rs) (getD (stepsIn begun rs) (suc i) [])
-      unfolding check
+      unfolding checkOf
       waiting [] f t p begun i room clocks off none ahead e = refused-counted e
       waiting (r ∷ rs) f t p begun i room clocks off none ahead e =
           rw (follow-one step readings ticks t p r rs)
@@ -372,7 +373,7 @@ module _ (step : ℕ) (readings : List ℕ) (ticks : ℕ) where
 pub found : (bytes : List ℕ) → Bytes bytes → (n L g : ℕ) → readOf bytes ≡ read.Counted n L g → (few : n ≤ 6)
     → (step : ℕ) (readings : List ℕ) (ticks : ℕ) → 1 ≤ step → step ≤ L
     → Found step readings ticks n few (progressOf step readings ticks bytes) (getD (listing bytes .steps) (step - 1) [])
-unfolding progressOf listing check recordsFrom
+unfolding progressOf listing checkOf recordsFrom
 found bytes small n L g e few step readings ticks low among =
     go bytes small (sym (read-short bytes (counted-short bytes n L g e)) ∙ e)
   where

@@ -11,7 +11,8 @@ use Rattle.records.specs.declared.Tally.{Tally}
 use Rattle.records.specs.declared.Verdict.the-variants.{Refused, Next, Last}
 use Rattle.records.specs.Rules.{isFree}
 use Rattle.wire.specs.Records.{Record, recordsAt}
-use Rattle.wire.specs.Reading.{judgeOf, start}
+use Rattle.records.specs.Checking.{start}
+use Rattle.wire.specs.Reading.{judgeOf}
 use Rattle.wire.specs.Listing.{guard, reset, Content, head, entry, finish, close, contentOf}
 use Rattle.ticks.specs.Ticks.{laterOf}
 use Rattle.scans.specs.declared.Running.{Running}

@@ -28,8 +28,8 @@ pub struct Table {
     pub resets: [bool; 119],
 }
 
-// Why a table, a number of rounds, a room, a running record or a tray of scans is refused: a word for each, in the order of their numbers, 1
-// to 19.
+// Why a table, a number of rounds, a room, a running record, a tray of scans or a card is refused: a word for each, in the order of their
+// numbers, 1 to 21.
 pub enum Fault {
     Length,
     Cut,
@@ -50,6 +50,8 @@ pub enum Fault {
     Record,
     Tray,
     Verdicts,
+    Card,
+    Output,
 }
 
 // A refusal: why, and the byte's place.
@@ -92,5 +94,7 @@ pub fn number(fault: Fault) -> u64
         Fault::Record => 17,
         Fault::Tray => 18,
         Fault::Verdicts => 19,
+        Fault::Card => 20,
+        Fault::Output => 21,
     }
 }

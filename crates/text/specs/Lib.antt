@@ -1,3 +1,4 @@
 pub mod Over
+pub mod Begun
 pub mod Decimal
 pub mod Numerals

@@ -43,7 +43,7 @@ digits-cases n x P one more = go (decLt x 10)
     go (no large) = let h : 10 ≤ x = omega arith in rw (le-ltb x 10 h) (more h)
 
 -- at most as many digits as are asked for
-digits-few : (n x : ℕ) → length (digits n x) ≤ n
+pub digits-few : (n x : ℕ) → length (digits n x) ≤ n
 digits-few zero x = omega (arith, ap length (digits-none 0 x refl))
 digits-few (suc n) x =
     digits-cases n x (λ ds. length ds ≤ suc n)
@@ -90,7 +90,7 @@ numeral-more x ds large front = record {
         nought : valueFrom 0 (48 ∷ []) ≡ 0
         nought = unfold valueFrom in refl
 
-numeral-digits : (n x : ℕ) → x < 10 ^ suc n → Numeral x (digits (suc n) x)
+pub numeral-digits : (n x : ℕ) → x < 10 ^ suc n → Numeral x (digits (suc n) x)
 numeral-digits zero x h = digits-cases 0 x (Numeral x) (numeral-one x) (λ large. absurd (omega arith))
 numeral-digits (suc n) x h =
     digits-cases (suc n) x (Numeral x) (numeral-one x)

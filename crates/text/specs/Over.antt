@@ -5,7 +5,7 @@ use Prim.Native.Nat.{ℕ, suc, _+_, _≤_}
 use native.Mathlib.Omega.{arith}
 use native.Mathlib.Nat.{add-zero}
 use lib.ListN.{length, set, take, drop, length-append}
-use lib.Seq.{sets, sets-eq}
+use lib.Seq.{sets, sets-eq, length-sets}
 
 -- The list with a text in it from a place on. What has no place there is left out.
 unfoldable pub over : List ℕ → ℕ → List ℕ → List ℕ
@@ -21,6 +21,11 @@ pub over-fits : (l : List ℕ) (at : ℕ) (text : List ℕ) → at + length text
     → over l at text ≡ take at l ++ text ++ drop (at + length text) l
 unfolding over
 over-fits l at text h = sets-eq text l at h
+
+-- as many bytes as before
+pub written-length : {l m text : List ℕ} {at end : ℕ} → Written l at text m end → length m ≡ length l
+unfolding over
+written-length {l} {text} {at} w = ap length (w .contents) ∙ length-sets l at text
 
 -- a text written at the front that fits: it stands there whole, and all after it is kept
 pub written-front : {l m text : List ℕ} {end : ℕ} → Written l 0 text m end → end ≤ length l

@@ -1,6 +1,6 @@
 -- How the answer goes on, one record at a time.
 use mathlib.Core.Path.{_≡_, refl, sym, ap, _∙_}
-use mathlib.Core.List.{List, _∷_}
+use mathlib.Core.List.{List}
 use Prim.Native.Nat.{ℕ, _+_, _*_, _≤_, _<_}
 use lib.Dec.{lit<}
 use lib.ListN.{length, getD, drop}
@@ -14,10 +14,10 @@ use Rattle.table.specs.declared.Read.{Read}
 use Rattle.table.specs.declared.Read.the-variants as read
 use Rattle.records.specs.declared.Tally.{Tally}
 use Rattle.records.specs.declared.Verdict.{Verdict}
-use Rattle.records.specs.declared.Verdict.the-variants.{Refused, Next, Last}
 use Rattle.records.specs.Rules.{bodySize, relationOf}
+use Rattle.records.specs.Checking.{start, checkOf, onwardOf, check-judged}
 use Rattle.wire.specs.Records.{Record, recordAt, recordsAt, records-none, records-next}
-use Rattle.wire.specs.Reading.{byte, judgeOf, tail, check, start, readOf}
+use Rattle.wire.specs.Reading.{byte, judgeOf, tail, check, readOf}
 use Rattle.wire.specs.Listing.{guardIn}
 
 -- byte i of a record's body, by its place in the table
@@ -43,28 +43,18 @@ guard-in bytes at clock relation low high e₁ e₂ e₃ e₄ = λ j.
 
 -- what a verdict makes of the records after it
 abbrev pub onward : ℕ → Tally → List Record → Verdict → Read
-onward len t rs (Refused f) = read.Refused f
-onward len t rs (Next u) = check len u rs
-onward len t rs Last = tail t rs
+onward = onwardOf (λ r. r .place) judgeOf
 
 module _ (bytes : List ℕ) (t : Tally) (at : ℕ) where
   -- the record at a place is judged, and the rest begins after it
   pub check-on : (len : ℕ) → at < length bytes
       → check len t (recordsAt bytes at)
       ≡ onward len t (recordsAt bytes (at + 1 + bodySize (getD bytes at 0))) (judgeOf t (recordAt at (getD bytes at 0) (drop (at + 1) bytes)))
-  check-on len h = ap (check len t) (records-next bytes at h) ∙ one len t _ _
-    where
-      one : (len : ℕ) (t : Tally) (r : Record) (rs : List Record) → check len t (r ∷ rs) ≡ onward len t rs (judgeOf t r)
-      one len t r rs = unfold check in split (judgeOf t r)
-        where
-          split : (v : Verdict) → elim v [ Refused f ↦ read.Refused f | Next u ↦ check len u rs | Last ↦ tail t rs ] ≡ onward len t rs v
-          split (Refused f) = refl
-          split (Next u) = refl
-          split Last = refl
+  check-on len h = ap (check len t) (records-next bytes at h) ∙ check-judged (λ r. r .place) judgeOf len t _ _ _ refl
 
   -- no record begins where one is due
   pub check-out : (len : ℕ) → length bytes ≤ at → check len t (recordsAt bytes at) ≡ read.Refused (record { fault = fault.Cut; place = len })
-  unfolding check
+  unfolding checkOf
   check-out len h = ap (check len t) (records-none bytes at h)
 
   -- a byte follows the end, or none

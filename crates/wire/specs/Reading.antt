@@ -1,6 +1,6 @@
 -- Records to the answer: a record's kind, place and length are tested first, then its body, and the first fault counts.
-use mathlib.Core.Bool.{Bool, true, false, cond, not}
-use mathlib.Core.List.{List, [], _∷_}
+use mathlib.Core.Bool.{cond}
+use mathlib.Core.List.{List}
 use Prim.Native.Nat.{ℕ, _+_, _*_}
 use lib.Dec.{eqb, leb}
 use lib.ListN.{length, getD}
@@ -9,14 +9,9 @@ use Rattle.table.specs.declared.Read.{Read}
 use Rattle.table.specs.declared.Read.the-variants as read
 use Rattle.records.specs.declared.Tally.{Tally}
 use Rattle.records.specs.declared.Verdict.{Verdict}
-use Rattle.records.specs.declared.Verdict.the-variants.{Refused, Next, Last}
-use Rattle.records.specs.Rules.{need, within, bodySize, headed, guarded, cleared, finished, ended}
+use Rattle.records.specs.Rules.{need, inOrder, within, bodySize, headed, guarded, cleared, finished, ended}
+use Rattle.records.specs.Checking.{start, tailOf, checkOf}
 use Rattle.wire.specs.Records.{Record, records}
-
--- both tests hold, or neither
-abbrev pub agree : Bool → Bool → Bool
-agree true b = b
-agree false b = not b
 
 -- byte i, from 0, of a record's body
 abbrev pub byte : Record → ℕ → ℕ
@@ -39,23 +34,17 @@ wholeOf t r =
 unfoldable pub judgeOf : Tally → Record → Verdict
 judgeOf t r =
     need (within 1 (r .kind) 5) fault.Kind (r .place)
-    (need (agree (eqb (r .place) 0) (eqb (r .kind) 1)) fault.Head (r .place)
+    (inOrder (eqb (r .kind) 1) (r .place)
     (need (leb (bodySize (r .kind)) (length (r .body))) fault.Cut (r .place)
     (wholeOf t r)))
 
 -- after the end no record begins
 abbrev pub tail : Tally → List Record → Read
-tail t [] = read.Counted (t .clocks) (t .steps) (t .guards)
-tail t (r ∷ rs) = read.Refused (record { fault = fault.Tail; place = r .place })
+tail = tailOf (λ r. r .place)
 
 -- the records from the left, in a table of a length
-unfoldable pub check : ℕ → Tally → List Record → Read
-check len t [] = read.Refused (record { fault = fault.Cut; place = len })
-check len t (r ∷ rs) = elim (judgeOf t r) [ Refused f ↦ read.Refused f | Next u ↦ check len u rs | Last ↦ tail t rs ]
-
--- before the first record
-abbrev pub start : Tally
-start = record { clocks = 0; steps = 0; guards = 0; pending = 0 }
+abbrev pub check : ℕ → Tally → List Record → Read
+check = checkOf (λ r. r .place) judgeOf
 
 -- the answer to the question "read"
 unfoldable pub readOf : List ℕ → Read

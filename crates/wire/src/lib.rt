@@ -16,9 +16,9 @@ ghost use mathlib.Core.Path.{_≡_};
 ghost use Prim.Native.Nat.{_≤_, _<_, _+_};
 ghost use lib.Dec.{eqb, leb};
 ghost use lib.ListN.{length, getD, take, drop};
-ghost use Rattle.records.specs.Rules.{bodySize};
+ghost use Rattle.records.specs.Rules.{bodySize, agree};
 ghost use Rattle.wire.specs.Records.{recordAt, recordsAt};
-ghost use Rattle.wire.specs.Reading.{agree, wholeOf, judgeOf, tail, readOf};
+ghost use Rattle.wire.specs.Reading.{wholeOf, judgeOf, tail, readOf};
 
 // The byte at a place that is there.
 pub fn byte_in(bytes: &[u8], i: usize) -> usize
@@ -71,7 +71,7 @@ fn take_whole(bytes: &[u8], at: usize, k: usize, t: Tally) -> Verdict
 }
 
 // Whether a kind stands where it may: a head first, and only there.
-fn head_placed(at: usize, k: usize) -> bool
+pub fn head_placed(at: usize, k: usize) -> bool
     ensures { λ r. ⌜ r ≡ agree (eqb at 0) (eqb k 1) ⌝ }
 {
     if at == 0 {

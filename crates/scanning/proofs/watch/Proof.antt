@@ -10,7 +10,8 @@ use Rattle.records.specs.declared.Tally.{Tally}
 use Rattle.records.specs.declared.Verdict.{Verdict}
 use Rattle.records.specs.declared.Verdict.the-variants.{Next}
 use Rattle.wire.specs.Records.{Bytes, recordAt, recordsAt}
-use Rattle.wire.specs.Reading.{check, start, readOf}
+use Rattle.records.specs.Checking.{start}
+use Rattle.wire.specs.Reading.{check, readOf}
 use Rattle.wire.specs.Listing.{contentOf}
 use Rattle.wire.specs.Laws.{onward, check-out, go-on, read-short}
 use Rattle.scanning.specs.declared.Progress.{Progress}

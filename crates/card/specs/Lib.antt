@@ -1,0 +1,2 @@
+-- what the entries give and leave in the rooms
+pub mod Told

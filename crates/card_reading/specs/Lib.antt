@@ -1,0 +1,4 @@
+pub mod Judged
+pub mod Drafted
+pub mod Going
+pub mod Answered

@@ -1,0 +1,16 @@
+pub mod Words
+pub mod Card
+pub mod Convert
+pub mod Handed
+pub mod Numbers
+pub mod Pieces
+pub mod Says
+pub mod LineByLine
+pub mod Contents
+pub mod Alike
+pub mod Accepted
+pub mod Small
+pub mod Listed
+pub mod RoundTrip
+pub mod Returns
+pub mod Faults
