@@ -53,7 +53,7 @@ use Rattle.format.specs.Shapes.{
   guards-more,
 }
 
-relation-known : (r : Relation) → leb (relationCode r) 4 ≡ true
+pub relation-known : (r : Relation) → leb (relationCode r) 4 ≡ true
 relation-known Under = refl
 relation-known AtMost = refl
 relation-known Exactly = refl
