@@ -6,3 +6,5 @@ pub mod Turns
 -- of a key, and of one side of a step
 pub mod KeyChecks
 pub mod SideChecks
+-- of demands of a list in any order
+pub mod Some

@@ -1,7 +1,8 @@
 // The last resets of the clocks at each step of the rounds, from their distances: how many steps ago in rounds without end.
+use constraints::following;
 use table::Table;
 ghost use mathlib.Core.Path.{_≡_};
-ghost use Prim.Native.Nat.{_+_, _≤_, _<_};
+ghost use Prim.Native.Nat.{_+_, _%_, _≤_, _<_};
 ghost use lib.ListN.{length};
 ghost use Rattle.table.specs.Step.{Good};
 ghost use Rattle.last_resets.specs.Since.{oneMore};
@@ -65,4 +66,15 @@ pub fn preceding(s: usize, steps: usize) -> usize
     ensures { λ r. ⌜ r ≡ precedingOf s steps ⌝ }
 {
     if s == 0 { steps - 1 } else { s - 1 }
+}
+
+// The step of its round that step `next` is, when step i is step s.
+pub fn step_of(s: usize, i: usize, next: usize, steps: usize) -> usize
+    requires { ⌜ (0 < steps) × (steps ≤ 16) × (i < 1024) × (s ≡ i % steps) ⌝ }
+    ensures { λ r. ⌜ r ≡ next % steps ⌝ }
+{
+    if next == i + 1 {
+        return following(s, steps);
+    }
+    next % steps
 }

@@ -4,6 +4,7 @@ use bounding::bound_side;
 use constraints::following;
 use constraints::not_after;
 use last_resets::preceding;
+use last_resets::step_of;
 ghost use mathlib.Core.Path.{_≡_};
 ghost use Prim.Native.Nat.{_+_, _-_, _%_, _≤_, _<_};
 ghost use Rattle.ways.specs.Forth.{Going};
@@ -106,17 +107,6 @@ fn ascend_step(
         next,
         left: less(left, i + 2 - next),
     }
-}
-
-// The step of its round that step `next` is, when step i is step s.
-fn step_of(s: usize, i: usize, next: usize, steps: usize) -> usize
-    requires { ⌜ (0 < steps) × (steps ≤ 16) × (i < 1024) × (s ≡ i % steps) ⌝ }
-    ensures { λ r. ⌜ r ≡ next % steps ⌝ }
-{
-    if next == i + 1 {
-        return following(s, steps);
-    }
-    next % steps
 }
 
 // The checks forth over all steps, with so many steps to go back: whether they have lowered a bound.

@@ -1,38 +1,90 @@
--- Pass after pass, until one has raised nothing on the way back or there is a cycle of parents.
-use mathlib.Core.Path.{_≡_, sym, ap, subst, _∙_}
+-- Pass after pass, with ways home between them, until one has raised nothing on the way back or there is a cycle of parents.
+use mathlib.Core.Path.{_≡_, refl, sym, ap, subst, _∙_}
+use mathlib.Core.Logic.{⊎-elim}
 use mathlib.Core.Bool.{Bool, true, false}
-use mathlib.Core.List.{List}
-use Prim.Native.Nat.{ℕ, _+_, _*_, _≤_, _<_, _^_}
+use mathlib.Core.List.{List, List·Memᴰ·append-cases, Memᴰ·append-left, Memᴰ·append-right}
+use Prim.Native.Nat.{ℕ, zero, suc, _+_, _*_, _-_, _≤_, _<_, _^_}
 use native.Mathlib.Omega.{arith}
-use native.Mathlib.Nat.{mul-le-mul-right, mul-le-mul-left}
-use native.Mathlib.Decide.{decLe, decLt}
+use native.Mathlib.Numerals.{add-one}
+use native.Mathlib.Decide.{decLe, decLt, ℕ-discrete}
 use lib.ListN.{length}
+use Rattle.runs.specs.declared.Demand.{Demand}
+use Rattle.runs.specs.Demand.{startsOf}
+use Rattle.sweeps.specs.Order.{forthOf, partnersFrom}
 use Rattle.sweeps.specs.Number.{sweep-few}
-use Rattle.paths.specs.Places.{at, length-written}
-use Rattle.paths.specs.Constraint.{Constraint, Fits}
-use Rattle.paths.specs.State.{State, passOf, hitsOf, passesOf, passes-none, passes-more}
-use Rattle.paths.specs.Bounds.{SameSize, room-kept, passes-size, Under, Gains, passes-under}
+use Rattle.paths.specs.Places.{at, filled, length-written}
+use Rattle.paths.specs.Constraint.{Constraint, All, Fits}
+use Rattle.paths.specs.State.{State, state, passOf, hitsOf, passesOf, passes-none, passes-more}
+use Rattle.paths.specs.Bounds.{SameSize, Room, Under, room-kept}
 use Rattle.paths.specs.Pass.{Start}
 use Rattle.paths.specs.Cycle.{OnCycle}
-use Rattle.paths.specs.Outcome.{outcome-links, outcome-must}
+use Rattle.paths.specs.Outcome.{outcome-must}
 use Rattle.paths.specs.Search.{Searchable, Search, found-some}
-use Rattle.checks.specs.Checks.{unit, length-edges, slight-fits, slight-gains}
+use Rattle.checks.specs.Checks.{unit, length-edges, slight-fits}
+use Rattle.checks.specs.Some.{Some, Onto, Able, onto-wider, onto-size, able-narrower}
+use Rattle.homing.specs.Steps.{stepsOf}
+use Rattle.homing.specs.Homing.{Went}
 use Rattle.relaxing.specs.Rows.{Rows, sweep, moments, constraintsOf, Sound, sound-moments}
 use Rattle.relaxing.specs.Pass.{Passable, Swept}
-use Rattle.relaxing.specs.Passes.{Begins, Ended}
+use Rattle.relaxing.specs.Passes.{Begins, Ready, Ended}
+use Rattle.relaxing.specs.Reached.{Reached, reached-first, reached-more, reached-size, reached-able, reached-passable, reached-under, reached-links}
+use Rattle.relaxing.specs.Reached.{reached-rises, reached-least, reached-negative, reached-cleared, onto-swept}
 
--- What the passes ask: the start values, and a mark for each moment.
-pub record Ready (R : Rows) (s : State) (marks : List ℕ) : Type 0 where
-  pub sound : Sound R
-  pub begins : Begins (moments R) (R .total) (R .clocks) s
-  pub room : moments R ≤ length marks
+-- ---- what comes before a pass
+-- A way home by demands of `all`, after which the stamps of N moments are taken away.
+pub record Cleared (N : ℕ) (all : List Demand) (q : ℕ) (s s′ : State) : Type 0 where
+  pub home : State
+  pub next : ℕ
+  pub went : Went all (2 ^ 16) q s home next
+  pub stamp : List ℕ
+  pub filled : stamp ≡ filled 0 N (home .stamp)
+  pub after : s′ ≡ state (home .time) (home .parent) stamp
 
--- After m passes from s₀, of which each has raised something and left no cycle of parents: the state s, and the stamp q of
--- the next check.
-pub record Passing (R : Rows) (s₀ : State) (m q : ℕ) (s : State) : Type 0 where
-  pub few : m < moments R
-  pub after : s ≡ passesOf (constraintsOf R) m s₀
-  pub stamp : q ≡ m * length (constraintsOf R) + 1
+pub home-cleared : (N : ℕ) (all : List Demand) (q : ℕ) (s : State) (time parent stamp stamp′ : List ℕ) (next : ℕ)
+    → Went all (2 ^ 16) q s (state time parent stamp) next → stamp′ ≡ filled 0 N stamp → Cleared N all q s (state time parent stamp′)
+home-cleared N all q s time parent stamp stamp′ next w e =
+    record { home = state time parent stamp; next = next; went = w; stamp = stamp′; filled = e; after = refl }
+
+-- When m passes are made: s is the state before and s′ after, q the stamp of the next check before and r after. The first sixteen passes
+-- have at most a way home before them, the seventeenth a way home after which no moment is stamped, and the others nothing.
+pub record Approached (N : ℕ) (all : List Demand) (m q : ℕ) (s s′ : State) (r : ℕ) : Type 0 where
+  pub near : m < 16 → Went all (2 ^ 16) q s s′ r
+  pub clear : m ≡ 16 → Cleared N all q s s′ × (r ≡ 1)
+  pub kept : 16 < m → (s′ ≡ s) × (r ≡ q)
+
+module _ (N : ℕ) (all : List Demand) (m q : ℕ) (s s′ : State) (r : ℕ) where
+  pub approached-near : m < 16 → Went all (2 ^ 16) q s s′ r → Approached N all m q s s′ r
+  approached-near l w = record { near = λ h. w; clear = λ h. absurd (omega arith); kept = λ h. absurd (omega arith) }
+
+  pub approached-clear : m ≡ 16 → Cleared N all q s s′ → r ≡ 1 → Approached N all m q s s′ r
+  approached-clear l c e = record { near = λ h. absurd (omega arith); clear = λ h. (c, e); kept = λ h. absurd (omega arith) }
+
+  pub approached-kept : 16 < m → s′ ≡ s → r ≡ q → Approached N all m q s s′ r
+  approached-kept l e f = record { near = λ h. absurd (omega arith); clear = λ h. absurd (omega arith); kept = λ h. (e, f) }
+
+-- ---- on the way
+-- s is the state after c passes from s₁ alone, of which each has raised something and left no cycle of parents, and q is the next stamp.
+pub record Turned (R : Rows) (s₁ : State) (c q : ℕ) (s : State) : Type 0 where
+  pub after : s ≡ passesOf (constraintsOf R) c s₁
+  pub stamp : q ≡ c * length (constraintsOf R) + 1
+  pub few : c < moments R
+
+-- When m passes are made from the start values s₀, none the last: the state s, and the stamp q of the next check. From the pass
+-- with the number f on only passes are made.
+pub record Passing (R : Rows) (s₀ : State) (f m most q : ℕ) (s : State) : Type 0 where
+  pub since : State
+  pub reached : Reached R s₀ since s q
+  pub few : q ≤ most
+  pub early : m < f → Under (moments R) (2 ^ 60) (since .time)
+  pub turned : f ≤ m → (c : ℕ) → m ≡ 16 + c → Turned R since c q s
+
+-- the demands of the steps are in the sweep
+pub steps-swept : (R : Rows) → Some (sweep R) (stepsOf (R .low) (R .up) (R .far) (R .steps) (R .clocks) (R .total))
+steps-swept R d m =
+    Memᴰ·append-right (partnersFrom (R .total) (startsOf (R .start)) 1 (R .clocks))
+    (⊎-elim (Memᴰ·append-left _)
+    (λ k. Memᴰ·append-right (forthOf (R .low) (R .far) (R .steps) (R .clocks) (R .total) 0 (R .total)) (Memᴰ·append-left _ k))
+    (List·Memᴰ·append-cases (forthOf (R .low) (R .far) (R .steps) (R .clocks) (R .total) 0 (R .total)) m))
 
 module _ (R : Rows) (s₀ : State) (z : Sound R) (b : Begins (moments R) (R .total) (R .clocks) s₀) where
   abbrev N : ℕ
@@ -41,16 +93,12 @@ module _ (R : Rows) (s₀ : State) (z : Sound R) (b : Begins (moments R) (R .tot
   abbrev cs : List Constraint
   cs = constraintsOf R
 
-  fits : Fits N cs
-  unfolding constraintsOf
-  fits = slight-fits N (sweep R) (z .slight)
+  abbrev steps : List Demand
+  steps = stepsOf (R .low) (R .up) (R .far) (R .steps) (R .clocks) (R .total)
 
-  start : Start N cs s₀
-  start = record { fits = fits; room = b .room; unstamped = b .unstamped }
-
-  gains : Gains unit cs
-  unfolding constraintsOf
-  gains = slight-gains N (sweep R) (z .slight)
+  -- the most that the next stamp is after m passes
+  abbrev most : ℕ → ℕ
+  most m = 1 + m * 2 ^ 20
 
   few-checks : length cs ≤ 13324
   unfolding constraintsOf
@@ -61,113 +109,205 @@ module _ (R : Rows) (s₀ : State) (z : Sound R) (b : Begins (moments R) (R .tot
         sweep-few (R .low) (R .up) (R .far) (R .start) (R .steps) (R .clocks) (R .total) (z .clocks) (z .few),
       )
 
-  low : Under N (4001 * 1031) (s₀ .time)
+  fits : Fits N cs
+  unfolding constraintsOf
+  fits = slight-fits N (sweep R) (z .slight)
+
+  -- ---- before the first pass
+  low : Under N (2 ^ 60) (s₀ .time)
   low v w = go (decLe v (R .total))
     where
-      go : Dec (v ≤ R .total) → at (s₀ .time) v ≤ 4001 * 1031
+      go : Dec (v ≤ R .total) → at (s₀ .time) v ≤ 2 ^ 60
       go (yes l) = omega (arith, b .now v l, sound-moments R z)
       go (no l) = omega (arith, b .past v (omega arith) w)
 
-  -- the number of checks, and the times after them
-  checks : (m : ℕ) → m ≤ N → m * length cs ≤ 1031 * 13324
-  checks m l =
-      let few : m ≤ 1031 = omega (arith, l, sound-moments R z) in
-      omega (arith, mul-le-mul-left m few-checks, mul-le-mul-right 13324 few)
+  pub passing-first : Passing R s₀ 17 0 (most 0) 1 s₀
+  passing-first =
+      record {
+        since = s₀;
+        reached = reached-first R z s₀ (b .room) (b .unstamped) (λ v w. omega (arith, low v w));
+        few = omega arith;
+        early = λ l. low;
+        turned = λ l. absurd (omega arith);
+      }
 
-  under : (m : ℕ) → m ≤ N → Under N (2 ^ 62) (passesOf cs m s₀ .time)
-  under m l v w =
-      omega (
-        arith,
-        checks m l,
-        mul-le-mul-right unit (checks m l),
-        passes-under N unit cs (4001 * 1031) m s₀ fits gains (b .room) low v w,
-      )
-
-  -- so in the end no time is large, and there is room for all
-  pub ended-under : (s′ : State) (r : ℕ) → Ended N cs s₀ s′ r → Under N (2 ^ 62) (s′ .time)
-  ended-under s′ r e = rw (e .after) (under (e .passes) (e .few))
-
-  pub ended-size : (s′ : State) (r : ℕ) → Ended N cs s₀ s′ r → SameSize s₀ s′
-  ended-size s′ r e = rw (e .after) (passes-size cs (e .passes) s₀)
-
-  -- before the first pass
-  pub passing-none : Passing R s₀ 0 1 s₀
-  passing-none = record { few = omega arith; after = sym (passes-none cs s₀); stamp = omega arith }
-
-  module _ (m q : ℕ) (s : State) (p : Passing R s₀ m q s) where
-    -- the next pass can be made
-    pub passing-passable : Passable R s q
-    passing-passable =
-        record {
-          sound = z;
-          room = rw (p .after) (room-kept N s₀ _ (passes-size cs m s₀) (b .room));
-          under = rw (p .after) (under m (omega (arith, p .few)));
-          stamp = omega (arith, p .stamp, checks m (omega (arith, p .few)));
-        }
-
+  -- ---- after m passes, before the next
+  module _ (m q : ℕ) (s : State) (p : Passing R s₀ 17 m (most m) q s) where
     pub passing-size : SameSize s₀ s
-    passing-size = rw (p .after) (passes-size cs m s₀)
+    passing-size = reached-size R z s₀ (b .room) (p .since) s q (p .reached)
 
-    -- s′ is the state after one pass more, and h says whether to go on
-    module _ (s′ : State) (h : Bool) (r : ℕ) (w : Swept R q s s′ h r) where
-      more : s′ ≡ passesOf cs (m + 1) s₀
-      more =
-          w .after
-          ∙ ap (λ (i : ℕ). passOf cs i s) (p .stamp)
-          ∙ ap (λ (x : State). passOf cs (m * length cs + 1) x) (p .after)
-          ∙ sym (passes-more cs m s₀)
-
-      hit : h ≡ true → hitsOf cs (m * length cs + 1) (passesOf cs m s₀) ≡ true
-      hit e =
-          ap (λ (x : State). hitsOf cs (m * length cs + 1) x) (sym (p .after))
-          ∙ ap (λ (i : ℕ). hitsOf cs i s) (sym (p .stamp))
-          ∙ w .loud e
-
-      pub more-size : SameSize s₀ s′
-      more-size = rw more (passes-size cs (m + 1) s₀)
-
-      -- Nothing was raised on the way back: the times are a solution.
-      pub ended-quiet : h ≡ false → Ended N cs s₀ s′ N
-      ended-quiet e =
-          record {
-            passes = m + 1;
-            few = omega (arith, p .few);
-            after = more;
-            cycle = λ l. absurd (omega arith);
-            solved = λ l. w .quiet e;
-          }
-
-      -- Otherwise look for a cycle of parents.
-      pub more-searchable : (marks : List ℕ) → N ≤ length marks → Searchable N (s′ .parent) (s′ .stamp) marks
-      more-searchable marks l = record { links = rw more (outcome-links N cs s₀ start (m + 1)); room = l }
-
-      module _ (marks marks′ : List ℕ) (u : ℕ) (f : Search N (s′ .parent) (s′ .stamp) marks marks′ u) where
-        pub ended-cycle : u < N → Ended N cs s₀ s′ u
-        ended-cycle l =
-            record {
-              passes = m + 1;
-              few = omega (arith, p .few);
-              after = more;
-              cycle = f .found .cycle;
-              solved = λ g. absurd (omega arith);
-            }
-
-        -- There is none: the N-th pass has not been made yet.
-        pub passing-more : h ≡ true → N ≤ u → Passing R s₀ (m + 1) r s′
-        passing-more e l =
-            record {
-              few = go (decLt (m + 1) N);
-              after = more;
-              stamp = omega (arith, w .stamp, p .stamp);
-            }
+    -- the last pass has not been made yet
+    pub passing-few : m < N + 16
+    passing-few = go (decLt 16 m)
+      where
+        go : Dec (16 < m) → m < N + 16
+        go (no l) = omega arith
+        go (yes l) = over m l (λ c e. p .turned (omega arith) c e .few)
           where
-            go : Dec (m + 1 < N) → m + 1 < N
-            go (yes g) = g
-            go (no g) =
-                let o = outcome-must N cs s₀ start m (omega arith) (hit e) in
-                let c : OnCycle N (s′ .parent) (s′ .stamp) (o .0) =
-                subst (λ (x : State). OnCycle N (x .parent) (x .stamp) (o .0)) (sym more) (o .1) in
-                absurd (omega (arith, found-some N (s′ .parent) (s′ .stamp) u (o .0) (f .found) c))
+            over : (n : ℕ) → 16 < n → ((c : ℕ) → n ≡ 16 + c → c < N) → n < N + 16
+            over n h k = omega (arith, k (n - 16) (omega arith))
+
+    pub passing-low : q ≤ 2 ^ 36
+    passing-low = omega (arith, p .few, passing-few, sound-moments R z)
+
+    pub passing-able : Able N steps s q
+    passing-able =
+        able-narrower (sweep R) q s N (reached-able R z s₀ (b .room) (p .since) s q (p .reached)) steps (steps-swept R)
+
+    -- what comes before it is done
+    module _ (s′ : State) (r : ℕ) (a : Approached N steps m q s s′ r) where
+      abbrev near : ℕ
+      near = most m + 2 ^ 16
+
+      -- the way home
+      homeward : (x : State) (n : ℕ) → Went steps (2 ^ 16) q s x n → Reached R s₀ (p .since) x n
+      homeward x n w =
+          reached-more R z s₀ (b .room) (p .since) s q (p .reached) x n
+          (onto-wider steps q s x n (w .onto) (sweep R) (steps-swept R))
+
+      cleared : m ≡ 16 → (k : Cleared N steps q s s′) → Reached R s₀ s′ s′ 1
+      cleared e k =
+          subst (λ (x : State). Reached R s₀ x x 1) (sym (k .after))
+          (reached-cleared R z s₀ (b .room) (p .since) (k .home) (k .next) t (k .stamp) (k .filled)
+          (λ v w. omega (arith, reached-under R z s₀ (b .room) (p .since) (k .home) (k .next) t (2 ^ 60) (p .early (omega arith)) v w, k .went .few, passing-low)))
+        where
+          t : Reached R s₀ (p .since) (k .home) (k .next)
+          t = homeward (k .home) (k .next) (k .went)
+
+      pub approached-passing : Passing R s₀ 16 m near r s′
+      approached-passing = go (decLt m 16) (ℕ-discrete m 16)
+        where
+          go : Dec (m < 16) → Dec (m ≡ 16) → Passing R s₀ 16 m near r s′
+          go (yes l) d =
+              record {
+                since = p .since;
+                reached = homeward s′ r (a .near l);
+                few = omega (arith, a .near l .few, p .few);
+                early = λ h. p .early (omega arith);
+                turned = λ h. absurd (omega arith);
+              }
+          go (no l) (yes e) =
+              let k = a .clear e in
+              record {
+                since = s′;
+                reached = subst (Reached R s₀ s′ s′) (sym (k .1)) (cleared e (k .0));
+                few = omega (arith, k .1);
+                early = λ h. absurd (omega arith);
+                turned = λ h c f. fresh c (omega arith) (k .1);
+              }
+            where
+              fresh : (c : ℕ) → c ≡ 0 → r ≡ 1 → Turned R s′ c r s′
+              fresh c f h =
+                  rw f (record { after = sym (passes-none cs s′); stamp = omega arith; few = omega arith })
+          go (no l) (no e) =
+              let k = a .kept (omega arith) in
+              record {
+                since = p .since;
+                reached = rw (k .0, k .1) (p .reached);
+                few = omega (arith, k .1, p .few);
+                early = λ h. absurd (omega arith);
+                turned = λ h c f. rw (k .0, k .1) (p .turned (omega arith) c f);
+              }
+
+      -- the pass can be made
+      pub approached-passable : Passable R s′ r
+      approached-passable =
+          let k = approached-passing in
+          reached-passable R z s₀ (b .room) (k .since) s′ r (k .reached)
+          (omega (arith, k .few, passing-few, sound-moments R z))
+
+      -- ---- after it
+      module _ (s″ : State) (h : Bool) (q′ : ℕ) (w : Swept R r s′ s″ h q′) where
+        abbrev at-hand : Passing R s₀ 16 m near r s′
+        at-hand = approached-passing
+
+        again : Reached R s₀ (at-hand .since) s″ q′
+        again =
+            reached-more R z s₀ (b .room) (at-hand .since) s′ r (at-hand .reached) s″ q′ (onto-swept R r s′ s″ h q′ w)
+
+        pub more-size : SameSize s₀ s″
+        more-size = reached-size R z s₀ (b .room) (at-hand .since) s″ q′ again
+
+        more-few : q′ ≤ most (m + 1)
+        more-few = omega (arith, w .stamp, few-checks, at-hand .few)
+
+        ended : (u : ℕ) → (u < N → OnCycle N (s″ .parent) (s″ .stamp) u) → (N ≤ u → All cs (at (s″ .time))) → Ended N cs s₀ s″ u
+        ended u c e =
+            record {
+              size = more-size;
+              under = λ v k. omega (arith, reached-able R z s₀ (b .room) (at-hand .since) s″ q′ again .under v k, more-few, passing-few, sound-moments R z);
+              rises = reached-rises R z s₀ (b .room) (at-hand .since) s″ q′ again;
+              least = reached-least R z s₀ (b .room) (at-hand .since) s″ q′ again;
+              cycle = c;
+              negative = λ l n out out′. reached-negative R z s₀ (b .room) (at-hand .since) s″ q′ again u n out out′ (c l);
+              solved = e;
+            }
+
+        -- Nothing was raised on the way back: the times are a solution.
+        pub ended-quiet : h ≡ false → Ended N cs s₀ s″ N
+        ended-quiet e = ended N (λ l. absurd (omega arith)) (λ l. w .quiet e)
+
+        -- Otherwise look for a cycle of parents.
+        pub more-searchable : (marks : List ℕ) → N ≤ length marks → Searchable N (s″ .parent) (s″ .stamp) marks
+        more-searchable marks l =
+            record { links = reached-links R z s₀ (b .room) (at-hand .since) s″ q′ again; room = l }
+
+        module _ (marks marks′ : List ℕ) (u : ℕ) (f : Search N (s″ .parent) (s″ .stamp) marks marks′ u) where
+          pub ended-cycle : u < N → Ended N cs s₀ s″ u
+          ended-cycle l = ended u (f .found .cycle) (λ g. absurd (omega arith))
+
+          -- There is none: of the passes that are made alone the N-th has not been made yet.
+          turned-more : h ≡ true → N ≤ u → (c : ℕ) → Turned R (at-hand .since) c r s′ → Turned R (at-hand .since) (c + 1) q′ s″
+          turned-more e l c t =
+              record {
+                after = more;
+                stamp = omega (arith, w .stamp, t .stamp);
+                few = go (decLt (c + 1) N);
+              }
+            where
+              start : Start N cs (at-hand .since)
+              start =
+                  record {
+                    fits = fits;
+                    room = room-kept N s₀ _ (at-hand .reached .size) (b .room);
+                    unstamped = at-hand .reached .unstamped;
+                  }
+
+              more : s″ ≡ passesOf cs (c + 1) (at-hand .since)
+              more =
+                  w .after
+                  ∙ ap (λ (i : ℕ). passOf cs i s′) (t .stamp)
+                  ∙ ap (λ (x : State). passOf cs (c * length cs + 1) x) (t .after)
+                  ∙ sym (passes-more cs c (at-hand .since))
+
+              hit : hitsOf cs (c * length cs + 1) (passesOf cs c (at-hand .since)) ≡ true
+              hit =
+                  ap (λ (x : State). hitsOf cs (c * length cs + 1) x) (sym (t .after))
+                  ∙ ap (λ (i : ℕ). hitsOf cs i s′) (sym (t .stamp))
+                  ∙ w .loud e
+
+              go : Dec (c + 1 < N) → c + 1 < N
+              go (yes g) = g
+              go (no g) =
+                  let o = outcome-must N cs (at-hand .since) start c (omega arith) hit in
+                  let k : OnCycle N (s″ .parent) (s″ .stamp) (o .0) =
+                  subst (λ (x : State). OnCycle N (x .parent) (x .stamp) (o .0)) (sym more) (o .1) in
+                  absurd (omega (arith, found-some N (s″ .parent) (s″ .stamp) u (o .0) (f .found) k))
+
+          pub passing-more : h ≡ true → N ≤ u → Passing R s₀ 17 (m + 1) (most (m + 1)) q′ s″
+          passing-more e l =
+              record {
+                since = at-hand .since;
+                reached = again;
+                few = more-few;
+                early = λ g. at-hand .early (omega arith);
+                turned = λ g c k. one c g k (at-hand .turned (omega arith));
+              }
+            where
+              one : (c : ℕ) → 17 ≤ m + 1 → m + 1 ≡ 16 + c → ((d : ℕ) → m ≡ 16 + d → Turned R (at-hand .since) d r s′)
+                  → Turned R (at-hand .since) c q′ s″
+              one zero g k t = absurd (omega arith)
+              one (suc c) g k t = rw (sym (add-one c)) (turned-more e l c (t c (omega arith)))
 
 -- the marks are as many as before
 pub search-size : (n : ℕ) (p st marks marks′ : List ℕ) (r : ℕ) → n ≤ length marks → Search n p st marks marks′ r

@@ -5,4 +5,5 @@ pub mod Onward
 pub mod Pass
 -- pass after pass
 pub mod Passes
+pub mod Reached
 pub mod Ending

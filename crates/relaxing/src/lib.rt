@@ -1,16 +1,29 @@
-// The difference constraints of k rounds, checked pass after pass over lent times.
+// The difference constraints of k rounds, checked pass after pass over lent times, with ways home between the passes where a few are not
+// enough.
 use checks::Sweep;
+use homing::home;
+use paths::fill;
 use paths::find_cycle;
 use runs::Start;
 use ways::back;
 use ways::check_partners;
 use ways::check_starts;
 use ways::forth;
+ghost use Prim.Native.Nat.{_+_, _≤_, _^_};
+ghost use lib.ListN.{length};
 ghost use Rattle.paths.specs.State.{state};
+ghost use Rattle.checks.specs.Some.{Able};
+ghost use Rattle.ways.specs.Forth.{Going};
+ghost use Rattle.homing.specs.Steps.{stepsOf};
 ghost use Rattle.relaxing.specs.Rows.{rows, moments, constraintsOf};
 ghost use Rattle.relaxing.specs.Pass.{Passable, Swept};
-ghost use Rattle.relaxing.specs.Passes.{Ended};
-ghost use Rattle.relaxing.specs.Ending.{Ready};
+ghost use Rattle.relaxing.specs.Passes.{Ready, Ended};
+ghost use Rattle.relaxing.specs.Ending.{Approached};
+
+// How many passes are made before the first way home, and how many before passes alone go on.
+const PLAIN: usize = 3;
+
+const TRIES: usize = 16;
 
 // A check of each demand, the first with the stamp q: the partners, forth, then back and the starts. Whether the way back has raised a
 // time; if not, all demands hold, since the partners and the way forth leave their own satisfied.
@@ -46,8 +59,43 @@ fn pass(
     check_starts(total, clocks, time, parent, stamp, come)
 }
 
-// Passes until one raises nothing on the way back, or there is a cycle of parents: a vertex on it, or else the number of moments. N
-// passes are enough for N moments.
+// What comes before a pass, when m are made: nothing before the first ones, then a way home. Before the first of those that go on alone
+// the stamps are taken away, after a last way home. The answer is the stamp of the next check.
+fn approach(
+    m: usize,
+    low: &[u64],
+    up: &[u64],
+    far: &[usize],
+    steps: usize,
+    clocks: usize,
+    total: usize,
+    time: &mut [u64],
+    parent: &mut [u64],
+    stamp: &mut [u64],
+    q: u64,
+) -> u64
+    requires { ⌜ Going (now low) (now far) steps clocks total × Going (now up) (now far) steps clocks total × (q ≤ 2 ^ 36)
+        × Able (total + clocks + 1) (stepsOf (now low) (now up) (now far) steps clocks total) (state (now time) (now parent) (now stamp)) q ⌝ }
+    ensures { λ r. ⌜ Approached (total + clocks + 1) (stepsOf (now (low .entry)) (now (up .entry)) (now (far .entry)) steps clocks total) m q
+        (state (now (time .entry)) (now (parent .entry)) (now (stamp .entry)))
+        (state (now (time .exit)) (now (parent .exit)) (now (stamp .exit))) r ⌝ }
+{
+    if m < PLAIN {
+        return q;
+    }
+    if m < TRIES {
+        return home(low, up, far, steps, clocks, total, time, parent, stamp, q);
+    }
+    if m == TRIES {
+        let last = home(low, up, far, steps, clocks, total, time, parent, stamp, q);
+        fill(stamp, total + clocks + 1, 0);
+        return 1;
+    }
+    q
+}
+
+// Passes from the start values, until one raises nothing on the way back, or there is a cycle of parents: a vertex on it, or else the
+// number of moments. Of the passes that go on alone N are enough for N moments.
 pub fn passes(
     low: &[u64],
     up: &[u64],
@@ -70,7 +118,20 @@ pub fn passes(
     let n = total + clocks + 1;
     let mut q: u64 = 1;
     let mut m: usize = 0;
-    while m < n {
+    while m < n + TRIES {
+        let near = approach(
+            m,
+            low,
+            up,
+            far,
+            steps,
+            clocks,
+            total,
+            time,
+            parent,
+            stamp,
+            q,
+        );
         let swept = pass(
             low,
             up,
@@ -82,7 +143,7 @@ pub fn passes(
             time,
             parent,
             stamp,
-            q,
+            near,
         );
         if !swept.raised {
             return n;

@@ -5,7 +5,7 @@ use mathlib.Core.List.{List, _++_, List·Memᴰ, List·Memᴰ·head, Memᴰ·app
 use Prim.Native.Nat.{ℕ, zero, suc, _+_, _*_, _-_, _≤_, _<_}
 use native.Mathlib.Omega.{arith}
 use native.Mathlib.Decide.{decLe}
-use lib.ListN.{length, take, drop}
+use lib.ListN.{length, take, drop, replicate, length-replicate, getD-replicate}
 use Rattle.runs.specs.Demand.{plus, startsOf}
 use Rattle.runs.specs.Start.{start-upper}
 use Rattle.sweeps.specs.Order.{returnOf, partnersFrom}
@@ -13,19 +13,13 @@ use Rattle.sweeps.specs.Covered.{among-forth}
 use Rattle.basics.specs.Tab.{tab, is-tab, length-tab, getD-tab}
 use Rattle.paths.specs.Places.{at, written, filled, length-written, at-written, at-written-rest}
 use Rattle.paths.specs.Walk.{ring-few}
-use Rattle.paths.specs.Constraint.{Constraint, All, NegativeCycle, Fits}
-use Rattle.paths.specs.State.{State, state, passesOf}
+use Rattle.paths.specs.Constraint.{Constraint, All}
+use Rattle.paths.specs.State.{State, state}
 use Rattle.paths.specs.Bounds.{Room}
-use Rattle.paths.specs.Pass.{Start}
-use Rattle.paths.specs.Cycle.{OnCycle}
 use Rattle.paths.specs.Code.{Wrote, wrote-rest, Returns, cycle-returns}
-use Rattle.paths.specs.Outcome.{outcome-least, outcome-wrote}
-use Rattle.paths.specs.Rises.{passes-rise}
 use Rattle.checks.specs.InParts.{edge}
-use Rattle.checks.specs.Checks.{slight-fits}
 use Rattle.relaxing.specs.Rows.{Rows, sweep, moments, constraintsOf, Sound}
-use Rattle.relaxing.specs.Passes.{Begins, Ended}
-use Rattle.relaxing.specs.Ending.{Ready, ended-under, ended-size}
+use Rattle.relaxing.specs.Passes.{Begins, Ready, Ended}
 use Rattle.readout.specs.LeastStart.{leastStart}
 use Rattle.readout.specs.OneClock.{least-forth}
 use Rattle.readout.specs.Starting.{Rowed, startAt}
@@ -37,16 +31,26 @@ pub record Roomy (R : Rows) (t s l : List ℕ) : Type 0 where
   pub starts : R .clocks ≤ length s
   pub loop : moments R ≤ length l
 
--- What is asked of the space to work in.
+-- What is asked of the space to work in: it is cleared.
 pub record Spacious (R : Rows) (s : State) (marks : List ℕ) : Type 0 where
   pub room : Room (moments R) s
+  pub timeless : (v : ℕ) → v < moments R → at (s .time) v ≡ 0
+  pub unstamped : (v : ℕ) → v < moments R → at (s .stamp) v ≡ 0
   pub marked : moments R ≤ length marks
 
--- a number of places is enough if all lists have it
-pub spacious : (R : Rows) (n : ℕ) (s : State) (marks : List ℕ) → moments R ≤ n → n ≤ length (s .time) → n ≤ length (s .parent)
-    → n ≤ length (s .stamp) → n ≤ length marks → Spacious R s marks
-spacious R n s marks l a b c d =
-    record { room = record { time = omega arith; parent = omega arith; stamp = omega arith }; marked = omega arith }
+-- four lists of so many zeros are such a space
+abbrev zeros : ℕ → List ℕ
+zeros n = replicate n 0
+
+pub spacious : (R : Rows) (n : ℕ) → moments R ≤ n → Spacious R (state (zeros n) (zeros n) (zeros n)) (zeros n)
+spacious R n l =
+    record { room = record { time = size; parent = size; stamp = size }; timeless = none; unstamped = none; marked = size }
+  where
+    size : moments R ≤ length (zeros n)
+    size = omega (arith, length-replicate {A = ℕ} n 0)
+
+    none : (v : ℕ) → v < moments R → at (zeros n) v ≡ 0
+    none v w = getD-replicate n v 0 0 (omega arith)
 
 -- equal numbers are written alike
 written-same : (f g : ℕ → ℕ) (n : ℕ) (l : List ℕ) → n ≤ length l → ((i : ℕ) → i < n → f i ≡ g i) → written f n l ≡ written g n l
@@ -68,37 +72,35 @@ module _ (R : Rows) (z : Sound R) where
   cs = constraintsOf R
 
   -- ---- before the passes
-  -- times 0, of which K + 1 are then set to 4001 ticks, and stamps 0 are the start values
-  pub start-ready : (time time₁ time₂ parent stamp stamp₁ marks : List ℕ) → Spacious R (state time parent stamp) marks
-      → time₁ ≡ filled 0 P time → time₂ ≡ filled (4001 * P) (K + 1) time₁ → stamp₁ ≡ filled 0 P stamp
-      → Ready R (state time₂ parent stamp₁) marks
-  start-ready time time₁ time₂ parent stamp stamp₁ marks h e f g =
+  -- times of which K + 1 are set to 4001 ticks, in a cleared space, are the start values
+  pub start-ready : (time time₁ parent stamp marks : List ℕ) → Spacious R (state time parent stamp) marks
+      → time₁ ≡ filled (4001 * P) (K + 1) time → Ready R (state time₁ parent stamp) marks
+  start-ready time time₁ parent stamp marks h e =
       record {
         sound = z;
         begins =
             record {
               room =
                   record {
-                    time = omega (arith, size₂, size₁, h .room .time);
+                    time =
+                        omega (
+                          arith,
+                          ap length e,
+                          length-written (λ i. 4001 * P) (K + 1) time (omega (arith, h .room .time)),
+                          h .room .time,
+                        );
                     parent = h .room .parent;
-                    stamp = omega (arith, ap length g, length-written (λ i. 0) P stamp (h .room .stamp), h .room .stamp);
+                    stamp = h .room .stamp;
                   };
-              unstamped = λ v w. ap (λ (l : List ℕ). at l v) g ∙ at-written (λ i. 0) P stamp v w;
-              now = λ v l. ap (λ (l : List ℕ). at l v) f ∙ at-written (λ i. 4001 * P) (K + 1) time₁ v (omega arith);
+              unstamped = h .unstamped;
+              now = λ v l. ap (λ (l : List ℕ). at l v) e ∙ at-written (λ i. 4001 * P) (K + 1) time v (omega arith);
               past = λ v l w.
-                  ap (λ (l : List ℕ). at l v) f
-                  ∙ at-written-rest (λ i. 4001 * P) (K + 1) time₁ v (omega arith)
-                  ∙ ap (λ (l : List ℕ). at l v) e
-                  ∙ at-written (λ i. 0) P time v w;
+                  ap (λ (l : List ℕ). at l v) e
+                  ∙ at-written-rest (λ i. 4001 * P) (K + 1) time v (omega arith)
+                  ∙ h .timeless v w;
             };
         room = h .marked;
       }
-    where
-      size₁ : length time₁ ≡ length time
-      size₁ = ap length e ∙ length-written (λ i. 0) P time (h .room .time)
-
-      size₂ : length time₂ ≡ length time₁
-      size₂ = ap length f ∙ length-written (λ i. 4001 * P) (K + 1) time₁ (omega (arith, size₁, h .room .time))
 
   -- ---- a solution: no moment is before the one before it
   order-member : (i : ℕ) → i < K → List·Memᴰ (edge (plus (suc i) i 0 false)) cs
@@ -116,44 +118,25 @@ module _ (R : Rows) (z : Sound R) where
 
   -- ---- after them
   module _ (s s′ : State) (u : ℕ) (b : Begins P K n s) (e : Ended P cs s s′ u) where
-    fits : Fits P cs
-    unfolding constraintsOf
-    fits = slight-fits P (sweep R) (z .slight)
-
-    start : Start P cs s
-    start = record { fits = fits; room = b .room; unstamped = b .unstamped }
-
     least : P ≤ u → LeastSolution R (at (s′ .time))
     least l = record { solution = e .solved l; above = above; least = below }
       where
         above : Above P K (at (s′ .time))
-        above i m = rw (e .after) (omega (arith, b .now i m, passes-rise P cs (e .passes) s fits (b .room) i))
+        above i m = omega (arith, b .now i m, e .rises i)
 
         below : (y : ℕ → ℕ) → All cs y → Above P K y → (v : ℕ) → v < P → at (s′ .time) v ≤ y v
-        below y h q v w =
-            rw (e .after) (outcome-least P cs s start (e .passes) y h (λ m k. first m k (decLe m K)) v w)
+        below y h q v w = e .least y h (λ m k. first m k (decLe m K)) v w
           where
             first : (m : ℕ) → m < P → Dec (m ≤ K) → at (s .time) m ≤ y m
             first m k (yes c) = omega (arith, b .now m c, q m c)
             first m k (no c) = omega (arith, b .past m (omega arith) k)
-
-    cycle : u < P → (out out′ : List ℕ) (m : ℕ) → Wrote (s′ .parent) u out out′ m → NegativeCycle cs (take m out′)
-    cycle l out out′ m w =
-        outcome-wrote P cs s start (e .passes) u m out out′ (on (e .cycle l)) (wrote w)
-      where
-        on : OnCycle P (s′ .parent) (s′ .stamp) u
-            → OnCycle P (passesOf cs (e .passes) s .parent) (passesOf cs (e .passes) s .stamp) u
-        on o = rw (e .after) at o
-
-        wrote : Wrote (s′ .parent) u out out′ m → Wrote (passesOf cs (e .passes) s .parent) u out out′ m
-        wrote h = rw (e .after) at h
 
     -- A cycle is written out.
     pub answer-cycle : u < P → (times starts out out′ : List ℕ) (m : ℕ) → Wrote (s′ .parent) u out out′ m
         → Cycles R times starts out times starts out′ m
     answer-cycle l times starts out out′ m w =
         record {
-          cycle = cycle l out out′ m w;
+          cycle = e .negative l m out out′ w;
           short = ring-few (at (s′ .parent)) P u m (w .ring) (e .cycle l .inside);
           few = w .few;
           size = ap length (w .contents) ∙ length-written _ m out (w .few);
@@ -165,11 +148,11 @@ module _ (R : Rows) (z : Sound R) where
     pub answer-returns : (room : ℕ) → P ≤ room → u < P → Returns (s′ .parent) room u
     answer-returns room l w =
         cycle-returns P room (s′ .parent) (s′ .stamp) u
-        (omega (arith, ended-size R s z b s′ u e .parent, b .room .parent)) l (e .cycle w)
+        (omega (arith, e .size .parent, b .room .parent)) l (e .cycle w)
 
     -- There is a time for each moment, none before the first.
     pub answer-times : K < length (s′ .time)
-    answer-times = omega (arith, ended-size R s z b s′ u e .time, b .room .time)
+    answer-times = omega (arith, e .size .time, b .room .time)
 
     pub answer-moments : P ≤ u → (i : ℕ) → i ≤ K → at (s′ .time) 0 ≤ at (s′ .time) i
     answer-moments l i m = rising (at (s′ .time)) (e .solved l) i m
@@ -185,7 +168,7 @@ module _ (R : Rows) (z : Sound R) where
           clocks = z .clocks;
           few = z .few;
           moments = answer-times;
-          now = ended-under R s z b s′ u e 0 (omega arith);
+          now = e .under 0 (omega arith);
         }
 
     -- The moments and the smallest starts are written out.

@@ -17,7 +17,7 @@ pub enum Solution {
 }
 
 // Solves the constraints of the rows: the moments and the smallest starts of the least solution are written to the first places of two
-// rooms; or a cycle to those of the third. The last four slices are space to work in.
+// rooms; or a cycle to those of the third. The last four slices are space to work in, cleared.
 pub fn solve(
     low: &[u64],
     up: &[u64],
@@ -42,9 +42,7 @@ pub fn solve(
         (now (times .exit)) (now (starts .exit)) (now (room .exit)) a ⌝ }
 {
     let n = total + clocks + 1;
-    fill(time, n, 0);
     fill(time, total + 1, 4001 * n as u64);
-    fill(stamp, n, 0);
     let u = passes(
         low,
         up,

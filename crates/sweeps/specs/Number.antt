@@ -16,7 +16,7 @@ use Rattle.last_resets.specs.Distance.{lastOf}
 use Rattle.sweeps.specs.Order.{cell, sideOf, forthAt, forthOf, backAt, backOf, returnOf, partnersFrom, sweepOf}
 
 -- at most one for each clock
-side-few : (b : Side) (keys far : List ℕ) (K s i j m : ℕ) → length (sideOf b keys far K s i j m) ≤ m
+pub side-few : (b : Side) (keys far : List ℕ) (K s i j m : ℕ) → length (sideOf b keys far K s i j m) ≤ m
 unfolding sideOf
 side-few b keys far K s i j zero = omega arith
 side-few b keys far K s i j (suc m) =

@@ -3,41 +3,29 @@ use Rattle.solving.specs.Solve.{start-ready, answer-times, answer-rowed,
 use Rattle.solving.specs.Solve.{answer-cycle, answer-moments, answer-plan}
 use Rattle.paths.specs.State.{state}
 use Rattle.relaxing.specs.Rows.{rows}
-use Rattle.relaxing.specs.Ending.{Ready}
+use Rattle.relaxing.specs.Passes.{Ready}
 use mathlib.Core.Path.{_∙_}
 use borrow.Author.Needs.{needs}
 use native.Mathlib.Omega.{arith}
 use Rattle.solving.proofs.solve.Statement.{statement}
 use Rattle.solving.proofs.solve.Tie as tie
 
--- ---- places: where it began, the three fills, the passes
-abbrev entry : tie.After-fill → tie.Start
-entry c = c .before .before .before .before .before .before .before .before .before .before .before .before
+-- ---- places: where it began, the start values, the passes
+abbrev start : tie.After-fill → tie.Start
+start c = c .before .before .before .before .before .before .before .before .before .before .before .before
 
-abbrev first : tie.After-fill2 → tie.After-fill
-first c = c .before .before .before .before
+abbrev filled : tie.After-passes-arg4 → tie.After-fill
+filled c = c .before .before .before .before .before .before
 
-abbrev second : tie.After-fill3 → tie.After-fill2
-second c = c .before .before .before .before
-
-abbrev third : tie.After-passes-arg4 → tie.After-fill3
-third c = c .before .before .before .before .before .before
-
-abbrev passed : tie.After-slice-known14 → tie.After-passes
+abbrev passed : tie.After-slice-known12 → tie.After-passes
 passed c = c .before .before .before .before .before .before .before .before
 
-abbrev start : tie.After-fill3 → tie.Start
-start c = entry (first (second c))
-
 -- the passes begin with the start values
-ready : (c : tie.After-fill3) → Ready
+ready : (c : tie.After-fill) → Ready
     (rows (start c .args .low .now) (start c .args .up .now) (start c .args .far .now) (start c .args .start) (start c .args .steps) (start c .args .clocks)
     (start c .args .total))
-    (state (second c .fill2 .last .0) (start c .args .parent .now) (c .fill3 .last .0)) (start c .args .marks .now)
-ready c =
-    let s = start c in
-    start-ready _ (s .pre .0) _ _ _ _ _ _ _ (s .pre .2) (first (second c) .fill .ensures)
-    (second c .fill2 .ensures) (c .fill3 .ensures)
+    (state (c .fill .last .0) (start c .args .parent .now) (start c .args .stamp .now)) (start c .args .marks .now)
+ready c = let s = start c in start-ready _ (s .pre .0) _ _ _ _ _ (s .pre .2) (c .fill .ensures)
 
 add-n : tie.Need-add-n
 add-n c = search needs
@@ -45,28 +33,21 @@ add-n c = search needs
 add-n-2 : tie.Need-add-n-2
 add-n-2 c = search needs
 
-fill-requires : tie.Need-fill-requires
-fill-requires c κs = search needs
-
 add-fill : tie.Need-add-fill
 add-fill c = search needs
 
 mul-fill : tie.Need-mul-fill
 mul-fill c = search needs
 
-fill-requires-2 : tie.Need-fill-requires-2
-fill-requires-2 c κs = search needs
-
-fill-requires-3 : tie.Need-fill-requires-3
-fill-requires-3 c κs = search needs
+fill-requires : tie.Need-fill-requires
+fill-requires c κs = search needs
 
 passes-requires : tie.Need-passes-requires
-passes-requires c κs =
-    ready (third c)
+passes-requires c κs = ready (filled c)
 
 write-cycle-requires : tie.Need-write-cycle-requires
 write-cycle-requires c κs =
-    let p = passed (c .before .before .before) in let f = third (p .before) in let s = start f in
+    let p = passed (c .before .before .before) in let f = filled (p .before) in let s = start f in
     answer-returns _ (s .pre .0) _ _ _
     (ready f .begins)
     (p .passes .ensures)
@@ -90,7 +71,7 @@ same-length-5 c = search needs
 returns : tie.Need-returns
 returns c =
     let p = passed (c .before .before .before .before .before .before) in
-    let f = third (p .before) in
+    let f = filled (p .before) in
     let s = start f in
     answer-cycle _ (s .pre .0) _ _ _
     (ready f .begins)
@@ -99,7 +80,7 @@ returns c =
 
 write-moments-requires : tie.Need-write-moments-requires
 write-moments-requires c κs =
-    let p = passed (c .before .before .before) in let f = third (p .before) in let s = start f in (
+    let p = passed (c .before .before .before) in let f = filled (p .before) in let s = start f in (
       omega (
         arith,
         answer-times _ (s .pre .0) _ _ _
@@ -116,7 +97,7 @@ write-moments-requires c κs =
 write-starts-requires : tie.Need-write-starts-requires
 write-starts-requires c κs =
     let p = passed (c .before .before .before .before .before .before .before .before) in
-    let f = third (p .before) in
+    let f = filled (p .before) in
     let s = start f in
     (answer-rowed _ (s .pre .0) _ _ _ (ready f .begins) (p .passes .ensures), s .pre .1 .starts)
 
@@ -127,7 +108,7 @@ same-length-7 : tie.Need-same-length-7
 same-length-7 c = search needs
 
 same-length-8 : tie.Need-same-length-8
-same-length-8 c = c .before .before .before .before .before .before .before .before .before .before .before .before .before .before .before .before .before .before .time3 .given ∙ c .before .before .before .before .before .before .before .before .before .before .before .before .before .before .before .before .before .before .before .before .before .before .before .before .before .before .before .before .before .time2 .given ∙ c .before .before .before .before .before .before .before .before .before .before .before .before .before .before .before .before .before .before .before .before .before .before .before .before .before .before .before .before .before .before .before .before .before .time .given
+same-length-8 c = search needs
 
 same-length-9 : tie.Need-same-length-9
 same-length-9 c = search needs
@@ -141,7 +122,7 @@ same-length-11 c = search needs
 returns-2 : tie.Need-returns-2
 returns-2 c =
     let p = passed (c .before .before .before .before .before .before .before .before .before .before .before) in
-    let f = third (p .before) in
+    let f = filled (p .before) in
     let s = start f in
     answer-plan _ (s .pre .0) _ _ _ (ready f .begins) (p .passes .ensures)
     (c .before .before .before .before .before .before .before .before .before .before .if1 .left) _ _ _ _ _ (s .pre .1 .starts)
@@ -154,11 +135,9 @@ solve-spec =
     (tie.spec
     add-n
     add-n-2
-    fill-requires
     add-fill
     mul-fill
-    fill-requires-2
-    fill-requires-3
+    fill-requires
     passes-requires
     write-cycle-requires
     same-length

@@ -1,5 +1,4 @@
 -- Each array has 1031 places.
-use Prim.Native.Nat.{_≤_}
 use Rattle.solving.specs.Solve.{spacious}
 use Rattle.relaxing.specs.Rows.{sound-moments}
 use borrow.Author.Needs.{needs}
@@ -19,13 +18,10 @@ slice-aggregate-solve-3 c = search needs
 slice-aggregate-solve-4 : tie.Need-slice-aggregate-solve-4
 slice-aggregate-solve-4 c = search needs
 
-enough : 1031 ≤ 1031
-enough = omega arith
-
 solve-requires : tie.Need-solve-requires
 solve-requires c κs =
     let s = c .before .before .before .before .before .before .before .before .before .before .before .before .before in
-    (s .pre .0, s .pre .1, spacious _ 1031 _ _ (sound-moments _ (s .pre .0)) enough enough enough enough)
+    (s .pre .0, s .pre .1, spacious _ 1031 (sound-moments _ (s .pre .0)))
 
 same-length : tie.Need-same-length
 same-length c = search needs

@@ -1,5 +1,4 @@
 -- Each array has 64 places.
-use Prim.Native.Nat.{_≤_}
 use Rattle.solving.specs.Solve.{spacious}
 use borrow.Author.Needs.{needs}
 use native.Mathlib.Omega.{arith}
@@ -18,13 +17,10 @@ slice-aggregate-solve-3 c = search needs
 slice-aggregate-solve-4 : tie.Need-slice-aggregate-solve-4
 slice-aggregate-solve-4 c = search needs
 
-enough : 64 ≤ 64
-enough = omega arith
-
 solve-requires : tie.Need-solve-requires
 solve-requires c κs =
     let s = c .before .before .before .before .before .before .before .before .before .before .before .before .before in
-    (s .pre .0, s .pre .1, spacious _ 64 _ _ (omega (arith, s .pre .2)) enough enough enough enough)
+    (s .pre .0, s .pre .1, spacious _ 64 (omega (arith, s .pre .2)))
 
 same-length : tie.Need-same-length
 same-length c = search needs

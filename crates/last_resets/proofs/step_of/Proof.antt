@@ -6,9 +6,9 @@ use native.Mathlib.Numerals.{add-one}
 use native.Mathlib.Omega.{arith}
 use Prim.Native.Nat.{_%_}
 use Rattle.constraints.specs.Pieces.{followingOf}
 use Rattle.last_resets.specs.Walking.{following-mod}
-use Rattle.latest.proofs.step_of.Statement.{statement}
-use Rattle.latest.proofs.step_of.Tie as tie
+use Rattle.last_resets.proofs.step_of.Statement.{statement}
+use Rattle.last_resets.proofs.step_of.Tie as tie
 
 add-if1 : tie.Need-add-if1
 add-if1 c = search needs

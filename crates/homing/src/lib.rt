@@ -1,0 +1,231 @@
+// A way home over the steps of k rounds: forth step by step, and wherever a step's guards from above raise an earlier step, back at
+// once from there and on again after it.
+use checks::Sweep;
+use checks::check;
+use checks::check_side;
+use constraints::following;
+use constraints::not_after;
+use last_resets::last_reset;
+use last_resets::preceding;
+use last_resets::step_of;
+ghost use mathlib.Core.Path.{_≡_};
+ghost use Prim.Native.Nat.{_+_, _*_, _%_, _≤_, _<_, _^_};
+ghost use lib.ListN.{length};
+ghost use Rattle.sweeps.specs.Order.{backOf};
+ghost use Rattle.paths.specs.State.{state};
+ghost use Rattle.checks.specs.Some.{Able};
+ghost use Rattle.ways.specs.Forth.{Going};
+ghost use Rattle.homing.specs.Steps.{stepsOf};
+ghost use Rattle.homing.specs.Homing.{Went};
+
+// How far a way has come: the step to go on with, and the stamp of the next check.
+struct Way {
+    next: usize,
+    stamp: u64,
+}
+
+// The lower of two moments, where the stamp of the second is not below `since`; else the first.
+fn lower(low: usize, z: usize, stamp: u64, since: u64) -> usize
+    ensures { λ r. ⌜ r ≤ low ⌝ }
+{
+    if stamp < since {
+        return low;
+    }
+    if z < low { z } else { low }
+}
+
+// The lowest of a moment and the last resets at step i that were raised by a check with the stamp `since` or a later one. It is step s
+// of its round.
+fn lowest(
+    raised: bool,
+    far: &[usize],
+    clocks: usize,
+    total: usize,
+    s: usize,
+    i: usize,
+    stamp: &[u64],
+    since: u64,
+    low: usize,
+) -> usize
+    requires { ⌜ (length (now far) ≡ 112) × (clocks ≤ 6) × (total ≤ 1024) × (s < 16) × (i < total) × (total + clocks + 1 ≤ length (now stamp)) ⌝ }
+    ensures { λ r. ⌜ r ≤ low ⌝ }
+{
+    if !raised {
+        return low;
+    }
+    let mut found = low;
+    let mut j: usize = 1;
+    while j <= clocks {
+        let z = last_reset(far[7 * s + j], total, i, j);
+        found = lower(found, z, stamp[z], since);
+        j += 1;
+    }
+    found
+}
+
+// The checks back over the steps before `from`, from the last of them on: the tightest guards from above of each. They stop below the
+// lowest step that they raise. Step `from` is step `first` of its round.
+fn back_from(
+    up: &[u64],
+    far: &[usize],
+    steps: usize,
+    clocks: usize,
+    total: usize,
+    from: usize,
+    first: usize,
+    time: &mut [u64],
+    parent: &mut [u64],
+    stamp: &mut [u64],
+    q: u64,
+) -> Way
+    requires { ⌜ Going (now up) (now far) steps clocks total × (from ≤ total) × (first ≡ from % steps) × (q ≤ 2 ^ 37 + 2 ^ 20)
+        × Able (total + clocks + 1) (backOf (now up) (now far) steps clocks total total) (state (now time) (now parent) (now stamp)) q ⌝ }
+    ensures { λ r. ⌜ Went (backOf (now (up .entry)) (now (far .entry)) steps clocks total total) (6 * from) q
+        (state (now (time .entry)) (now (parent .entry)) (now (stamp .entry)))
+        (state (now (time .exit)) (now (parent .exit)) (now (stamp .exit))) (r .stamp) × (r .next ≤ from) ⌝ }
+{
+    let mut i = from;
+    let mut s = first;
+    let mut low = from;
+    let mut next = q;
+    while 0 < i {
+        if i < low {
+            return Way {
+                next: low,
+                stamp: next,
+            };
+        }
+        s = preceding(s, steps);
+        i -= 1;
+        let begun = Sweep {
+            raised: false,
+            stamp: next,
+        };
+        let swept = check_side(
+            true,
+            up,
+            far,
+            clocks,
+            total,
+            s,
+            i,
+            time,
+            parent,
+            stamp,
+            begun,
+        );
+        low = lowest(swept.raised, far, clocks, total, s, i, stamp, next, low);
+        next = swept.stamp;
+    }
+    Way {
+        next: low,
+        stamp: next,
+    }
+}
+
+// The checks of step i forth, and those back from it. It is step s of its round.
+fn home_step(
+    low: &[u64],
+    up: &[u64],
+    far: &[usize],
+    steps: usize,
+    clocks: usize,
+    total: usize,
+    s: usize,
+    i: usize,
+    time: &mut [u64],
+    parent: &mut [u64],
+    stamp: &mut [u64],
+    q: u64,
+) -> Way
+    requires { ⌜ Going (now low) (now far) steps clocks total × Going (now up) (now far) steps clocks total × (i < total) × (s ≡ i % steps) × (q ≤ 2 ^ 37)
+        × Able (total + clocks + 1) (stepsOf (now low) (now up) (now far) steps clocks total) (state (now time) (now parent) (now stamp)) q ⌝ }
+    ensures { λ r. ⌜ Went (stepsOf (now (low .entry)) (now (up .entry)) (now (far .entry)) steps clocks total) 6151 q
+        (state (now (time .entry)) (now (parent .entry)) (now (stamp .entry)))
+        (state (now (time .exit)) (now (parent .exit)) (now (stamp .exit))) (r .stamp) × (q < r .stamp) × (r .next ≤ i + 1) ⌝ }
+{
+    let begun = Sweep {
+        raised: false,
+        stamp: q,
+    };
+    let ordered = check(not_after(i + 1, i), time, parent, stamp, begun);
+    let lowered = check_side(
+        false,
+        low,
+        far,
+        clocks,
+        total,
+        s,
+        i,
+        time,
+        parent,
+        stamp,
+        ordered,
+    );
+    let after = following(s, steps);
+    back_from(
+        up,
+        far,
+        steps,
+        clocks,
+        total,
+        i + 1,
+        after,
+        time,
+        parent,
+        stamp,
+        lowered.stamp,
+    )
+}
+
+// How many checks a way has for each step, if it is not to end early: twice as many as a pass can have.
+const CHECKS: u64 = 26;
+
+// A way home over all steps. Where there are steps that it raises again and again it ends early, so that a pass is made before the next
+// way. The answer is the stamp of the next check.
+pub fn home(
+    low: &[u64],
+    up: &[u64],
+    far: &[usize],
+    steps: usize,
+    clocks: usize,
+    total: usize,
+    time: &mut [u64],
+    parent: &mut [u64],
+    stamp: &mut [u64],
+    q: u64,
+) -> u64
+    requires { ⌜ Going (now low) (now far) steps clocks total × Going (now up) (now far) steps clocks total × (q ≤ 2 ^ 36)
+        × Able (total + clocks + 1) (stepsOf (now low) (now up) (now far) steps clocks total) (state (now time) (now parent) (now stamp)) q ⌝ }
+    ensures { λ r. ⌜ Went (stepsOf (now (low .entry)) (now (up .entry)) (now (far .entry)) steps clocks total) (2 ^ 16) q
+        (state (now (time .entry)) (now (parent .entry)) (now (stamp .entry)))
+        (state (now (time .exit)) (now (parent .exit)) (now (stamp .exit))) r ⌝ }
+{
+    let last = q + CHECKS * total as u64;
+    let mut i: usize = 0;
+    let mut s: usize = 0;
+    let mut next = q;
+    while i < total {
+        if last <= next {
+            return next;
+        }
+        let come = home_step(
+            low,
+            up,
+            far,
+            steps,
+            clocks,
+            total,
+            s,
+            i,
+            time,
+            parent,
+            stamp,
+            next,
+        );
+        s = step_of(s, i, come.next, steps);
+        i = come.next;
+        next = come.stamp;
+    }
+    next
+}
