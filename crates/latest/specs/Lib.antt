@@ -3,5 +3,7 @@ pub mod Steps
 -- the checks back and forth over the steps
 pub mod Descent
 pub mod Ascent
+-- back step by step, and forth at once
+pub mod Glide
 -- until nothing is lowered
 pub mod Settle

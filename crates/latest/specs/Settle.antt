@@ -39,6 +39,14 @@ module _ (low up far : List ℕ) (L n K : ℕ) where
   settling-first l₀ l r a =
       record { falling = falling-first N cs l (a .falling .bounded); settled = λ p. absurd (true≢false p) }
 
+  -- after a glide
+  pub settling-glide : (l₀ l : List ℕ) (h : Bool) → Settling l₀ l h → (l′ : List ℕ) → Falling N cs l l′ → Settling l₀ l′ true
+  settling-glide l₀ l h u l′ f =
+      record { falling = falling-then N cs l₀ l l′ (u .falling) f; settled = λ p. absurd (true≢false p) }
+
+  pub glide-less : (l l′ : List ℕ) (h : Bool) → h ≡ true → Falling N cs l l′ → (x : ℕ) → x < measure l′ true → x < measure l h
+  glide-less l l′ h p f x w = rw p (omega (arith, f .sum, w))
+
   module _ (l₀ l : List ℕ) (h : Bool) (u : Settling l₀ l h) where
     pub forth-able : Bounded N forth l
     forth-able = bounded-some N cs forth l (left-member forth back) (u .falling .bounded)
