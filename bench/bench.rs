@@ -9,6 +9,7 @@
 mod card;
 #[path = "../plain/cards.rs"]
 mod cards;
+mod clock;
 #[path = "../terminal/judge.rs"]
 mod judge;
 #[path = "../terminal/panel.rs"]
@@ -22,6 +23,7 @@ mod scans;
 #[path = "../terminal/tray.rs"]
 mod tray;
 
+use clock::now;
 use plain::entries;
 use std::cell::RefCell;
 use std::hint::black_box;
@@ -228,27 +230,6 @@ fn staircase() -> Vec<u8> {
 }
 
 // Timing.
-
-#[repr(C)]
-struct Timespec {
-    seconds: i64,
-    nanoseconds: i64,
-}
-
-extern "C" {
-    fn clock_gettime(clock: i32, time: *mut Timespec) -> i32;
-}
-
-/// Nanoseconds that this thread has run.
-fn now() -> f64 {
-    const THREAD: i32 = 3;
-    let mut time = Timespec {
-        seconds: 0,
-        nanoseconds: 0,
-    };
-    assert_eq!(unsafe { clock_gettime(THREAD, &mut time) }, 0);
-    time.seconds as f64 * 1e9 + time.nanoseconds as f64
-}
 
 /// Median times of a call in nanoseconds, of each side.
 fn time<const N: usize>(mut sides: [&mut dyn FnMut(); N]) -> [f64; N] {
