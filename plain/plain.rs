@@ -616,7 +616,7 @@ const PLAIN: usize = 3;
 const TRIES: usize = 16;
 const HOME: usize = 2;
 
-/// The most checks of a way home to the latest times, by those of a pass.
+/// The most checks of the way home to the latest times, by those of a pass.
 const LATE: usize = 16;
 
 /// Moments, each with its time and with its parent, the moment after which it was raised.
@@ -819,7 +819,7 @@ impl Space {
     }
 
     /// The latest times from log-in, where a run exists, with the sign turned round: so that the same demands raise the earlier moment
-    /// where they raised the later one, and the later where they raised the earlier.
+    /// where they raised the later one, and the later where they raised the earlier. A pass, a way home, and where that is cut passes.
     fn latest(&mut self) {
         self.last.set(&self.demands, UNREACHED, 0);
         self.last.time[0] = 0;
@@ -830,11 +830,9 @@ impl Space {
             back: &self.demands.lower,
             moments: &mut self.last,
         };
-        loop {
-            walk.go_forth();
-            if !walk.go_back() || walk.go_home(LATE) {
-                return;
-            }
+        walk.go_forth();
+        if walk.go_back() && !walk.go_home(LATE) {
+            while walk.go_forth() && walk.go_back() {}
         }
     }
 
