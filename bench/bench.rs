@@ -243,7 +243,7 @@ fn receding() -> Vec<u8> {
     filled(steps, 3)
 }
 
-/// The slowest windows that bench/search.rs found, reduced to what matters, where the plan is quick. Every fifth step is within 3,998
+/// The slowest windows that a climb from zigzag found, reduced to what matters; the plan is quick. Every fifth step is within 3,998
 /// ticks, so that the last round bounds the one before it from above, and so on to the first: from the fifth step back to the third
 /// and the first, forth to the second, back to the fourth of the round before, and forth to its fifth.
 fn recoiling() -> Vec<u8> {
