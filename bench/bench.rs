@@ -9,6 +9,7 @@
 mod card;
 #[path = "../plain/cards.rs"]
 mod cards;
+mod clock;
 #[path = "../terminal/judge.rs"]
 mod judge;
 #[path = "../terminal/panel.rs"]
@@ -22,6 +23,7 @@ mod scans;
 #[path = "../terminal/tray.rs"]
 mod tray;
 
+use clock::now;
 use plain::entries;
 use std::cell::RefCell;
 use std::hint::black_box;
@@ -214,7 +216,7 @@ fn descending() -> Vec<u8> {
     filled(steps, 2)
 }
 
-/// The slowest that bench/search.rs found, reduced to what matters. The second steps are 3,994 ticks after the third before them and
+/// One that bench/search.rs found for passes forth and back alone, reduced to what matters. The second steps are 3,994 ticks after the third before them and
 /// soon after the first, and the fourth steps are soon after the third and late after the first before them: each pass forth and back
 /// moves one half round.
 fn staircase() -> Vec<u8> {
@@ -227,28 +229,40 @@ fn staircase() -> Vec<u8> {
     filled(steps, 2)
 }
 
+/// The slowest plan that bench/search.rs found for passes and ways home, reduced to what matters. The fifth steps are over 3,990 ticks
+/// apart, so that the second of a round is late for the third of the round before, that for its fourth, and that for its first: a way
+/// back from the last round to the first, with steps forth on it. A way home goes it anew from each round.
+fn receding() -> Vec<u8> {
+    let steps = vec![
+        reset(3),
+        guard(2, UNDER, 3979),
+        reset(2),
+        guard(3, AT_MOST, 3),
+        [guard(1, OVER, 3990), reset(1)].concat(),
+    ];
+    filled(steps, 3)
+}
+
+/// The slowest windows that a climb from zigzag found, reduced to what matters; the plan is quick. Every fifth step is within 3,998
+/// ticks, so that the last round bounds the one before it from above, and so on to the first: from the fifth step back to the third
+/// and the first, forth to the second, back to the fourth of the round before, and forth to its fifth.
+fn recoiling() -> Vec<u8> {
+    let steps = vec![
+        reset(1),
+        [guard(1, AT_MOST, 0), guard(2, AT_LEAST, 11)].concat(),
+        [guard(1, OVER, 0), reset(3)].concat(),
+        [reset(1), reset(2)].concat(),
+        [
+            guard(1, AT_MOST, 1),
+            guard(4, AT_MOST, 3998),
+            guard(3, AT_LEAST, 2),
+        ]
+        .concat(),
+    ];
+    filled(steps, 4)
+}
+
 // Timing.
-
-#[repr(C)]
-struct Timespec {
-    seconds: i64,
-    nanoseconds: i64,
-}
-
-extern "C" {
-    fn clock_gettime(clock: i32, time: *mut Timespec) -> i32;
-}
-
-/// Nanoseconds that this thread has run.
-fn now() -> f64 {
-    const THREAD: i32 = 3;
-    let mut time = Timespec {
-        seconds: 0,
-        nanoseconds: 0,
-    };
-    assert_eq!(unsafe { clock_gettime(THREAD, &mut time) }, 0);
-    time.seconds as f64 * 1e9 + time.nanoseconds as f64
-}
 
 /// Median times of a call in nanoseconds, of each side.
 fn time<const N: usize>(mut sides: [&mut dyn FnMut(); N]) -> [f64; N] {
@@ -542,7 +556,7 @@ fn bench_panels() {
         " {:>7} {:>11} {:>7} {:>11}",
         "by plan", "proved ns", "by plan", "proved ns"
     );
-    let tables: [(&str, &[u8], u64); 18] = [
+    let tables: [(&str, &[u8], u64); 20] = [
         ("S10 for 2", S10, 2),
         ("5 steps for 10", &line(), 10),
         ("5 steps for 204", &line(), 204),
@@ -581,6 +595,8 @@ fn bench_panels() {
             204,
         ),
         ("4 steps, 64 guards, for 256: staircase", &staircase(), 256),
+        ("5 steps, 64 guards, for 204: receding", &receding(), 204),
+        ("5 steps, 64 guards, for 204: recoiling", &recoiling(), 204),
     ];
     let ratios = tables.map(|(name, bytes, k)| bench_panel(name, bytes, k));
     let most = ratios.into_iter().fold(0.0, f64::max);
@@ -865,6 +881,8 @@ fn main() {
         204,
     );
     bench_plan("4 steps, 64 guards, for 256: staircase", &staircase(), 256);
+    bench_plan("5 steps, 64 guards, for 204: receding", &receding(), 204);
+    bench_plan("5 steps, 64 guards, for 204: recoiling", &recoiling(), 204);
     bench_demands("S10 for 2", S10, 2);
     bench_demands("the largest row", &crowded(EXACTLY, 3), 1024);
     println!();

@@ -1,12 +1,15 @@
-//! Searches for tables whose plans take many passes, by hill climbing with fixed seeds. A model of the library's order counts the
-//! passes and the checks of a plan; the search keeps what takes more checks. The slowest tables found are then timed in the library.
+//! Searches for tables whose plans take many checks, by hill climbing with fixed seeds. A model of the library's order counts the
+//! checks of a plan; the search keeps what takes more. The tables found are then timed in the library, in the time of this thread.
 //!
-//! With the word panel: for tables whose windows take long beside their plans, both timed in the library; the search keeps a larger
-//! ratio.
+//! With the word panel: for tables whose windows take long, half of the seeds beside their plans and half by themselves. The model
+//! counts the checks for the last moments too.
 //!
-//!     bench/run search [SECONDS [mid-shift]]
-//!     bench/run search SECONDS panel
+//!     bench/run search [SECONDS [log-in | mid-shift [SEED]]]
+//!     bench/run search SECONDS panel [SEED]
+//!
+//! There are twelve seeds, from SEED on.
 
+mod clock;
 #[path = "../terminal/judge.rs"]
 mod judge;
 #[path = "../terminal/panel.rs"]
@@ -16,6 +19,9 @@ use std::time::{Duration, Instant};
 
 const CLOCKS: usize = 6;
 const NONE: i64 = i64::MAX;
+
+/// The most steps of a plan.
+const TOTAL: usize = 1024;
 
 /// A table: for each step its guards (clock, relation, constant) and the clocks that it resets, as bits.
 #[derive(Clone)]
@@ -48,13 +54,6 @@ impl Table {
     }
 }
 
-/// What a plan takes: passes forth and back, and checks of demands.
-#[derive(Clone, Copy, Default)]
-struct Cost {
-    passes: usize,
-    checks: usize,
-}
-
 /// From log-in a pass begins with the demands that no last reset is before the start.
 #[derive(Clone, Copy, PartialEq)]
 enum Start {
@@ -62,88 +61,222 @@ enum Start {
     MidShift,
 }
 
-/// The library's passes over the plan of k rounds, in a model.
-fn cost(table: &Table, start: Start, k: usize) -> Cost {
-    let length = table.steps.len();
-    let total = k * length;
-    let parts = (total + table.clocks + 1) as i64;
-    let vertices = total + table.clocks + 1;
-    // For each step and clock the tightest guards in parts, and how many steps ago the clock was last reset in rounds without end.
-    let mut low = vec![[NONE; CLOCKS + 1]; length];
-    let mut up = vec![[NONE; CLOCKS + 1]; length];
-    let mut far = vec![[0; CLOCKS + 1]; length];
-    for (s, (guards, _)) in table.steps.iter().enumerate() {
-        for &(j, relation, constant) in guards {
-            let c = i64::from(constant) * parts;
-            let (least, most) = match relation {
-                0 => (None, Some(c - 1)),
-                1 => (None, Some(c)),
-                2 => (Some(c), Some(c)),
-                3 => (Some(c), None),
-                _ => (Some(c + 1), None),
-            };
-            if let Some(w) = least {
-                low[s][j] = if low[s][j] == NONE { w } else { low[s][j].max(w) };
-            }
-            if let Some(w) = most {
-                up[s][j] = up[s][j].min(w);
+/// What a plan takes: passes forth and back, checks of demands, and how many of these a pass has; and whether a run exists.
+struct Cost {
+    passes: usize,
+    checks: usize,
+    pass: usize,
+    run: bool,
+}
+
+/// The library's order over the demands of k rounds, in a model. Each step of a round has the tightest guards, as clock and parts, and
+/// for each clock how many steps ago it was last reset in rounds without end.
+struct Model {
+    clocks: usize,
+    length: usize,
+    total: usize,
+    low: Vec<Vec<(usize, i64)>>,
+    up: Vec<Vec<(usize, i64)>>,
+    far: Vec<[usize; CLOCKS + 1]>,
+}
+
+/// Times that checks raise, each with the moment after which it was raised.
+struct Times {
+    time: Vec<i64>,
+    parent: Vec<usize>,
+    checks: usize,
+}
+
+impl Times {
+    fn check(&mut self, from: usize, to: usize, weight: i64) -> bool {
+        self.checks += 1;
+        let raised = self.time[from] < self.time[to] + weight;
+        if raised {
+            self.time[from] = self.time[to] + weight;
+            self.parent[from] = to;
+        }
+        raised
+    }
+}
+
+/// Bounds from above that checks lower.
+struct Bounds {
+    late: Vec<i64>,
+    checks: usize,
+}
+
+impl Bounds {
+    /// The bound of `to` by that of `from`; the lower of `low` and what is lowered.
+    fn check(&mut self, from: usize, to: usize, most: i64, low: usize) -> usize {
+        self.checks += 1;
+        if self.late[from] != NONE && self.late[from] + most < self.late[to] {
+            self.late[to] = self.late[from] + most;
+            return low.min(to);
+        }
+        low
+    }
+}
+
+impl Model {
+    fn of(table: &Table, k: usize) -> Model {
+        let length = table.steps.len();
+        let total = k * length;
+        let parts = (total + table.clocks + 1) as i64;
+        let (mut low, mut up) = (vec![vec![]; length], vec![vec![]; length]);
+        let mut far = vec![[0; CLOCKS + 1]; length];
+        for (s, (guards, _)) in table.steps.iter().enumerate() {
+            for j in 1..=table.clocks {
+                let of_clock = || guards.iter().filter(|guard| guard.0 == j).map(|guard| (guard.1, i64::from(guard.2) * parts));
+                let least = of_clock().filter(|guard| guard.0 >= 2).map(|(relation, c)| c + i64::from(relation == 4));
+                let most = of_clock().filter(|guard| guard.0 <= 2).map(|(relation, c)| c - i64::from(relation == 0));
+                low[s].extend(least.max().map(|w| (j, w)));
+                up[s].extend(most.min().map(|w| (j, w)));
+                far[s][j] = (1..=length)
+                    .find(|d| table.steps[(s + length - d) % length].1 >> j & 1 == 1)
+                    .unwrap_or(0);
             }
         }
-        for j in 1..=table.clocks {
-            far[s][j] = (1..=length)
-                .find(|d| table.steps[(s + length - d) % length].1 >> j & 1 == 1)
-                .unwrap_or(0);
+        Model { clocks: table.clocks, length, total, low, up, far }
+    }
+
+    fn vertices(&self) -> usize {
+        self.total + self.clocks + 1
+    }
+
+    /// The last reset of clock j at step i.
+    fn last(&self, i: usize, j: usize) -> usize {
+        match self.far[i % self.length][j] {
+            d if d != 0 && d <= i => i + 1 - d,
+            _ => self.total + j,
         }
     }
-    let last = |i: usize, s: usize, j: usize| match far[s][j] {
-        d if d != 0 && d <= i => i + 1 - d,
-        _ => total + j,
-    };
-    let mut time = vec![0i64; vertices];
-    time[..=total].fill(4001 * parts);
-    let mut parent = vec![usize::MAX; vertices];
-    let mut marks = vec![0; vertices];
-    let mut cost = Cost::default();
-    while cost.passes < vertices {
-        cost.passes += 1;
-        let mut raised = false;
-        let mut check = |from: usize, to: usize, weight: i64, raised: &mut bool| {
-            cost.checks += 1;
-            if time[from] < time[to] + weight {
-                time[from] = time[to] + weight;
-                parent[from] = to;
-                *raised = true;
+
+    /// Step i forth: the order demand, and its guards from below.
+    fn forth(&self, i: usize, times: &mut Times) {
+        times.check(i + 1, i, 0);
+        for &(j, w) in &self.low[i % self.length] {
+            times.check(i + 1, self.last(i, j), w);
+        }
+    }
+
+    /// Step i back, its guards from above: the lower of `low` and what is raised, and whether something is.
+    fn back(&self, i: usize, times: &mut Times, low: usize) -> (usize, bool) {
+        let (mut lowest, mut raised) = (low, false);
+        for &(j, w) in &self.up[i % self.length] {
+            let last = self.last(i, j);
+            if times.check(last, i + 1, -w) {
+                (lowest, raised) = (lowest.min(last), true);
             }
-        };
+        }
+        (lowest, raised)
+    }
+
+    /// A pass; whether it raises something on the way back.
+    fn pass(&self, start: Start, times: &mut Times) -> bool {
         if start == Start::LogIn {
-            for j in 1..=table.clocks {
-                check(total + j, 0, 0, &mut raised);
+            for j in 1..=self.clocks {
+                times.check(self.total + j, 0, 0);
             }
         }
-        for i in 0..total {
-            check(i + 1, i, 0, &mut raised);
-            for j in 1..=table.clocks {
-                if low[i % length][j] != NONE {
-                    check(i + 1, last(i, i % length, j), low[i % length][j], &mut raised);
-                }
+        for i in 0..self.total {
+            self.forth(i, times);
+        }
+        let mut raised = false;
+        for i in (0..self.total).rev() {
+            raised |= self.back(i, times, 0).1;
+        }
+        for j in 1..=self.clocks {
+            raised |= times.check(0, self.total + j, 0);
+        }
+        raised
+    }
+
+    /// A way home: step by step forth, and from each back at once as far as it raises earlier ones. Cut after so many checks.
+    fn home(&self, times: &mut Times, most: usize) {
+        let end = times.checks + most;
+        let mut i = 0;
+        while i < self.total && times.checks < end {
+            self.forth(i, times);
+            let (mut at, mut lowest) = (i + 1, i + 1);
+            while at > 0 && at >= lowest {
+                at -= 1;
+                lowest = self.back(at, times, lowest).0;
             }
-        }
-        raised = false;
-        for i in (0..total).rev() {
-            for j in 1..=table.clocks {
-                if up[i % length][j] != NONE {
-                    check(last(i, i % length, j), i + 1, -up[i % length][j], &mut raised);
-                }
-            }
-        }
-        for j in 1..=table.clocks {
-            check(0, total + j, 0, &mut raised);
-        }
-        if !raised || on_cycle(&parent, &mut marks) {
-            break;
+            i = lowest;
         }
     }
-    cost
+
+    /// A plan: three passes, thirteen with a way home before each, and then passes. The library looks for a cycle after each.
+    fn plan(&self, start: Start) -> Cost {
+        let n = self.vertices();
+        let mut times = Times { time: vec![0; n], parent: vec![usize::MAX; n], checks: 0 };
+        times.time[..=self.total].fill(4001 * n as i64);
+        let mut marks = vec![0; n];
+        let mut cost = Cost { passes: 0, checks: 0, pass: 0, run: true };
+        while cost.passes < 16 + n {
+            if (3..16).contains(&cost.passes) {
+                self.home(&mut times, 2 * cost.pass);
+            }
+            let begun = times.checks;
+            let raised = self.pass(start, &mut times);
+            cost = Cost { passes: cost.passes + 1, checks: times.checks, pass: times.checks - begun, run: true };
+            if !raised {
+                break;
+            }
+            if on_cycle(&times.parent, &mut marks) {
+                cost.run = false;
+                break;
+            }
+        }
+        cost
+    }
+
+    /// Last moments, step `from` back: the order demands and the guards from below, down to where nothing is lowered.
+    fn descend(&self, bounds: &mut Bounds, from: usize, floor: usize) -> usize {
+        let (mut i, mut lowest) = (from, floor);
+        while i > 0 && i >= lowest {
+            i -= 1;
+            lowest = bounds.check(i + 1, i, 0, lowest);
+            for &(j, w) in &self.low[i % self.length] {
+                lowest = bounds.check(i + 1, self.last(i, j), -w, lowest);
+            }
+        }
+        lowest
+    }
+
+    /// Last moments forth, and from each step that is lowered back at once, so many steps in all; whether one is lowered.
+    fn ascend(&self, bounds: &mut Bounds, mut left: usize) -> bool {
+        let (mut i, mut hit) = (0, false);
+        while i < self.total {
+            let mut lowest = usize::MAX;
+            for &(j, w) in &self.up[i % self.length] {
+                lowest = bounds.check(self.last(i, j), i + 1, w, lowest);
+            }
+            let mut next = i + 1;
+            if lowest < usize::MAX {
+                hit = true;
+                if left > 0 {
+                    next = self.descend(bounds, i + 1, i + 1);
+                    left = left.saturating_sub(i + 2 - next);
+                }
+            }
+            i = next;
+        }
+        hit
+    }
+
+    /// The checks for the last moments, from log-in and where a run exists: forth, then back and forth until nothing is lowered.
+    fn latest(&self) -> usize {
+        let mut bounds = Bounds { late: vec![0; self.vertices()], checks: 0 };
+        bounds.late[1..=self.total].fill(NONE);
+        self.ascend(&mut bounds, 0);
+        loop {
+            self.descend(&mut bounds, self.total, 0);
+            if !self.ascend(&mut bounds, 16 * self.total) {
+                return bounds.checks;
+            }
+        }
+    }
 }
 
 fn on_cycle(parent: &[usize], marks: &mut [usize]) -> bool {
@@ -233,29 +366,6 @@ impl Random {
     }
 }
 
-/// The table with only those guards and resets without which a plan takes fewer passes.
-fn reduced(table: &Table, start: Start, k: usize) -> Table {
-    let passes = cost(table, start, k).passes;
-    let mut small = table.clone();
-    for s in 0..small.steps.len() {
-        for g in (0..small.steps[s].0.len()).rev() {
-            let mut new = small.clone();
-            new.steps[s].0.remove(g);
-            if cost(&new, start, k).passes >= passes {
-                small = new;
-            }
-        }
-        for j in 1..=small.clocks {
-            let mut new = small.clone();
-            new.steps[s].1 &= !(1 << j);
-            if cost(&new, start, k).passes >= passes {
-                small = new;
-            }
-        }
-    }
-    small
-}
-
 /// The table in words.
 fn words(table: &Table) -> String {
     let relation = |r: u8| ["under", "at most", "exactly", "at least", "over"][usize::from(r)];
@@ -271,66 +381,157 @@ fn words(table: &Table) -> String {
     steps.join("; ")
 }
 
-type Plan = fn(&[u8], u64, &mut [u64], &mut [u64], &mut [u64], &mut [u64]) -> bool;
+/// As many rounds as there may be in so many steps.
+fn rounds(table: &Table, steps: usize) -> usize {
+    (steps / table.steps.len()).max(1)
+}
+
+/// What a search looks for: the larger the longer it takes, for a table and so many steps.
+type Measure<'a> = &'a dyn Fn(&Table, usize) -> f64;
+
+/// The steps of a climb at first.
+const FEW: usize = 120;
+
+/// Climbs from random tables towards a larger measure, until an end. Few rounds first, where a step of the climb is quick; then as
+/// many as a plan may have.
+fn climb(seed: u64, end: Instant, measure: Measure) -> Table {
+    let mut random = Random(seed * 0x9E37_79B9_7F4A_7C15);
+    let mut best = random.table();
+    for steps in [FEW, TOTAL] {
+        let mut most = measure(&best, steps);
+        let until = if steps == FEW { end - (end - Instant::now()) / 3 } else { end };
+        let mut turn = 0;
+        while Instant::now() < until {
+            turn += 1;
+            let new = match random.below(if turn < 50 { 2 } else { 200 }) {
+                0 => random.table(),
+                _ => random.changed(&best),
+            };
+            let taken = measure(&new, steps);
+            if taken >= most {
+                (most, best) = (taken, new);
+            }
+        }
+    }
+    best
+}
+
+/// The table with only those guards and resets without which the measure is clearly smaller.
+fn reduced(table: &Table, measure: Measure) -> Table {
+    let enough = 0.97 * measure(table, TOTAL);
+    let mut small = table.clone();
+    for s in 0..small.steps.len() {
+        for g in (0..small.steps[s].0.len()).rev() {
+            let mut new = small.clone();
+            new.steps[s].0.remove(g);
+            if measure(&new, TOTAL) >= enough {
+                small = new;
+            }
+        }
+        for j in 1..=small.clocks {
+            let mut new = small.clone();
+            new.steps[s].1 &= !(1 << j);
+            if measure(&new, TOTAL) >= enough {
+                small = new;
+            }
+        }
+    }
+    small
+}
 
 /// The least time of a few calls, in microseconds.
 fn fastest(calls: usize, mut call: impl FnMut()) -> f64 {
     let time = |_| {
-        let begin = Instant::now();
+        let begin = clock::now();
         call();
-        begin.elapsed().as_secs_f64() * 1e6
+        (clock::now() - begin) / 1e3
     };
     (0..calls).map(time).fold(f64::MAX, f64::min)
 }
 
-/// The times of the windows and of the plan of as many rounds as there may be; None without a run.
-fn panel_times(table: &Table, calls: usize) -> Option<(f64, f64)> {
-    let bytes = table.bytes();
-    let k = (1024 / table.steps.len()) as u64;
-    let (mut times, mut starts, mut room, mut answer) = ([0; 1024], [0; 6], [0; 1031], [0; 4]);
-    let plan = fastest(calls, || {
-        assert!(judge::plan(&bytes, k, &mut times, &mut starts, &mut room, &mut answer));
-    });
-    if answer[1] != 0 {
-        return None;
-    }
-    let (mut marks, mut seconds) = ([0; 1024], [0.0; 2048]);
-    let windows = fastest(calls, || {
-        assert!(panel::windows(&bytes, k, &mut marks, &mut seconds, &mut answer));
-    });
-    Some((windows, plan))
+type Plan = fn(&[u8], u64, &mut [u64], &mut [u64], &mut [u64], &mut [u64]) -> bool;
+
+/// The time of a plan of as many rounds as there may be.
+fn plan_time(table: &Table, plan: Plan) -> f64 {
+    let (bytes, k) = (table.bytes(), rounds(table, TOTAL) as u64);
+    let (mut times, mut starts, mut room, mut answer) = ([0; TOTAL], [0; CLOCKS], [0; TOTAL + CLOCKS + 1], [0; 4]);
+    fastest(9, || {
+        assert!(plan(&bytes, k, &mut times, &mut starts, &mut room, &mut answer));
+    })
 }
 
-fn search_panel(seconds: u64) {
-    const SEEDS: u64 = 12;
-    let ratio = |table: &Table, calls: usize| panel_times(table, calls).map_or(0.0, |(windows, plan)| windows / plan);
-    let mut found: Vec<(f64, Table)> = Vec::new();
-    for seed in 1..=SEEDS {
-        let mut random = Random(seed * 0x9E37_79B9_7F4A_7C15);
-        let mut best = (0.0, random.table());
-        let end = Instant::now() + Duration::from_millis(seconds * 1000 / SEEDS);
-        while Instant::now() < end {
-            let new = match random.below(if best.0 < 5.0 { 2 } else { 50 }) {
-                0 => random.table(),
-                _ => random.changed(&best.1),
-            };
-            // What seems to take longer is timed again, so that one slow call does not count.
-            if ratio(&new, 2) >= best.0 {
-                let again = ratio(&new, 7);
-                if again >= best.0 {
-                    best = (again, new);
-                }
-            }
-        }
-        found.push(best);
+/// The time of the windows of as many rounds as there may be.
+fn windows_time(table: &Table) -> f64 {
+    let (bytes, k) = (table.bytes(), rounds(table, TOTAL) as u64);
+    let (mut marks, mut seconds, mut answer) = ([0; TOTAL], [0.0; 2 * TOTAL], [0; 4]);
+    fastest(9, || {
+        assert!(panel::windows(&bytes, k, &mut marks, &mut seconds, &mut answer));
+    })
+}
+
+/// The table's bytes, as they are searched for, in hexadecimal.
+fn hex(table: &Table) -> String {
+    table.bytes().iter().map(|byte| format!("{byte:02x}")).collect()
+}
+
+const SEEDS: u64 = 12;
+
+/// What a climb from each seed finds, with the largest measure first.
+fn search(seconds: u64, seeds: impl Iterator<Item = u64> + Clone, measure: Measure) -> Vec<Table> {
+    let each = Duration::from_millis(seconds * 1000 / seeds.clone().count() as u64);
+    let mut found: Vec<Table> = seeds.map(|seed| climb(seed, Instant::now() + each, measure)).collect();
+    found.sort_by(|a, b| measure(b, TOTAL).total_cmp(&measure(a, TOTAL)));
+    found
+}
+
+fn search_plan(seconds: u64, first: u64, start: Start, plan: Plan) {
+    let cost = |table: &Table, steps: usize| Model::of(table, rounds(table, steps)).plan(start);
+    // At first by the checks of a pass, so that a climb does not end where there are only many guards.
+    let measure = |table: &Table, steps: usize| {
+        let Cost { checks, pass, .. } = cost(table, steps);
+        checks as f64 / if steps == FEW { pass as f64 } else { 1.0 }
+    };
+    let found = search(seconds, first..first + SEEDS, &measure);
+    println!("{:>6} {:>7} {:>6} {:>7} {:>10} {:>8} {:>9}  table, reduced to what matters; all of it", "steps", "rounds", "guards", "passes", "checks", "by pass", "us");
+    for table in &found {
+        let Cost { passes, checks, pass, run } = cost(table, TOTAL);
+        let small = reduced(table, &|table, steps| {
+            let Cost { checks, pass, .. } = cost(table, steps);
+            checks as f64 / pass as f64
+        });
+        println!(
+            "{:>6} {:>7} {:>6} {passes:>7} {checks:>10} {:>8.1} {:>9.1}  {}{}; {}",
+            table.steps.len(), rounds(table, TOTAL), table.guards(), checks as f64 / pass as f64, plan_time(table, plan),
+            if run { "" } else { "a loop: " }, words(&small), hex(table)
+        );
     }
-    found.sort_by(|a, b| b.0.total_cmp(&a.0));
-    println!("{:>6} {:>7} {:>6} {:>10} {:>9} {:>7}  table", "steps", "rounds", "guards", "windows us", "plan us", "ratio");
-    for (_, table) in &found {
-        if let Some((windows, plan)) = panel_times(table, 21) {
+}
+
+fn search_panel(seconds: u64, first: u64) {
+    // The checks of a pass and of the plan, and those for the last moments.
+    let checks = |table: &Table, steps: usize| {
+        let model = Model::of(table, rounds(table, steps));
+        let plan = model.plan(Start::LogIn);
+        [plan.pass, plan.checks, if plan.run { model.latest() } else { 0 }].map(|number| number as f64)
+    };
+    let by_plan = |table: &Table, steps: usize| {
+        let [_, plan, latest] = checks(table, steps);
+        latest / plan
+    };
+    let alone = |table: &Table, steps: usize| {
+        let [pass, _, latest] = checks(table, steps);
+        latest / if steps == FEW { pass } else { 1.0 }
+    };
+    let goals: [(&str, Measure); 2] = [("windows by plan", &by_plan), ("windows", &alone)];
+    for (name, measure) in goals {
+        println!("{name}");
+        println!("{:>6} {:>7} {:>6} {:>10} {:>10} {:>10} {:>9} {:>7}  table, reduced to what matters; all of it", "steps", "rounds", "guards", "checks", "of plan", "windows us", "plan us", "ratio");
+        for table in search(seconds / 2, first..first + SEEDS / 2, measure) {
+            let [_, of_plan, of_latest] = checks(&table, TOTAL);
+            let (windows, plan) = (windows_time(&table), plan_time(&table, judge::plan));
             println!(
-                "{:>6} {:>7} {:>6} {:>10.1} {:>9.1} {:>7.2}  {}",
-                table.steps.len(), 1024 / table.steps.len(), table.guards(), windows, plan, windows / plan, words(table)
+                "{:>6} {:>7} {:>6} {:>10} {of_plan:>10} {windows:>10.1} {plan:>9.1} {:>7.2}  {}; {}",
+                table.steps.len(), rounds(&table, TOTAL), table.guards(), of_plan + of_latest, windows / plan, words(&reduced(&table, &by_plan)), hex(&table)
             );
         }
     }
@@ -338,48 +539,11 @@ fn search_panel(seconds: u64) {
 
 fn main() {
     let seconds: u64 = std::env::args().nth(1).map_or(60, |word| word.parse().expect("seconds"));
-    let (start, plan): (_, Plan) = match std::env::args().nth(2).as_deref() {
-        None => (Start::LogIn, judge::plan),
-        Some("mid-shift") => (Start::MidShift, judge::plan_mid_shift),
-        Some("panel") => return search_panel(seconds),
-        Some(word) => panic!("{word}: only mid-shift or panel can be asked for"),
-    };
-    const SEEDS: u64 = 12;
-    let mut found: Vec<(Cost, Table)> = Vec::new();
-    for seed in 1..=SEEDS {
-        let mut random = Random(seed * 0x9E37_79B9_7F4A_7C15);
-        let mut best = (Cost::default(), random.table());
-        let end = Instant::now() + Duration::from_millis(seconds * 1000 / SEEDS);
-        // Few rounds first, where a step of the climb is quick; then as many as a plan may have.
-        for steps in [120, 1024] {
-            let rounds = |table: &Table| (steps / table.steps.len()).max(1);
-            best.0 = cost(&best.1, start, rounds(&best.1));
-            let until = if steps == 120 { end - (end - Instant::now()) / 3 } else { end };
-            while Instant::now() < until {
-                let new = match random.below(if best.0.passes < 4 { 3 } else { 200 }) {
-                    0 => random.table(),
-                    _ => random.changed(&best.1),
-                };
-                let taken = cost(&new, start, rounds(&new));
-                if taken.checks >= best.0.checks {
-                    best = (taken, new);
-                }
-            }
-        }
-        found.push(best);
-    }
-    found.sort_by_key(|(cost, _)| std::cmp::Reverse(cost.checks));
-    println!("{:>6} {:>7} {:>6} {:>7} {:>10} {:>9}  table, reduced to what matters", "steps", "rounds", "guards", "passes", "checks", "us");
-    let (mut times, mut starts, mut room, mut answer) = (vec![0; 1024], vec![0; 6], vec![0; 1031], [0; 4]);
-    for (cost, table) in &found {
-        let bytes = table.bytes();
-        let k = 1024 / table.steps.len();
-        let taken = fastest(5, || {
-            assert!(plan(&bytes, k as u64, &mut times, &mut starts, &mut room, &mut answer));
-        });
-        println!(
-            "{:>6} {:>7} {:>6} {:>7} {:>10} {:>9.0}  {}",
-            table.steps.len(), k, table.guards(), cost.passes, cost.checks, taken, words(&reduced(table, start, k))
-        );
+    let first: u64 = std::env::args().nth(3).map_or(1, |word| word.parse().expect("the first seed"));
+    match std::env::args().nth(2).as_deref() {
+        None | Some("log-in") => search_plan(seconds, first, Start::LogIn, judge::plan),
+        Some("mid-shift") => search_plan(seconds, first, Start::MidShift, judge::plan_mid_shift),
+        Some("panel") => search_panel(seconds, first),
+        Some(word) => panic!("{word}: only log-in, mid-shift or panel can be asked for"),
     }
 }

@@ -3,7 +3,9 @@
 //!
 //! A card's timer is a clock of plain.rs, its bound a guard, and "zero" a reset.
 
-use crate::plain::{Fault, Record, Records, Refusal, Relation, CLOCKS, CONSTANT, GUARDS, STEPS};
+use crate::plain::{
+    go_through, Fault, Guard, Refusal, Relation, Take, CLOCKS, CONSTANT, GUARDS, STEPS,
+};
 
 /// The most bytes of a card's text.
 pub const LONGEST: usize = 16_384;
@@ -150,45 +152,51 @@ fn sign(text: &[u8]) -> Option<(Relation, &[u8])> {
 
 /// The card of a table.
 pub fn from_table(table: &[u8]) -> Result<Vec<u8>, Refusal> {
-    let mut records = Records::of(table)?;
-    let mut card = Vec::with_capacity(CARD);
-    loop {
-        match records.next()? {
-            Record::Head => {
-                card.extend(b"timers ");
-                put_number(&mut card, records.counted.clocks as u16);
-            }
-            Record::Guard(guard) => {
-                put_number(&mut card, guard.clock.into());
-                card.extend(match guard.relation {
-                    Relation::Under => b" < ".as_slice(),
-                    Relation::AtMost => b" <= ",
-                    Relation::Exactly => b" = ",
-                    Relation::AtLeast => b" >= ",
-                    Relation::Over => b" > ",
-                });
-                put_number(&mut card, guard.constant);
-            }
-            Record::Reset(clock) => {
-                card.extend(b"zero ");
-                put_number(&mut card, clock.into());
-            }
-            Record::Step => card.extend(b"step"),
-            Record::End => {
-                card.extend(b"end\n");
-                return Ok(card);
+    let mut card = Card(Vec::with_capacity(CARD));
+    go_through(table, &mut card)?;
+    card.0.extend(b"end\n");
+    Ok(card.0)
+}
+
+/// The lines of a card before its end. The records of a table add to it.
+struct Card(Vec<u8>);
+
+impl Take for Card {
+    fn head(&mut self, clocks: u8) {
+        self.0.extend(b"timers ");
+        self.0.extend(&[digit(clocks.into()), b'\n']);
+    }
+
+    fn guard(&mut self, guard: Guard) {
+        self.0.push(digit(guard.clock.into()));
+        match guard.relation {
+            Relation::Under => self.0.extend(b" < "),
+            Relation::AtMost => self.0.extend(b" <= "),
+            Relation::Exactly => self.0.extend(b" = "),
+            Relation::AtLeast => self.0.extend(b" >= "),
+            Relation::Over => self.0.extend(b" > "),
+        }
+        for unit in [1000, 100, 10] {
+            if guard.constant >= unit {
+                self.0.push(digit(guard.constant / unit % 10));
             }
         }
-        card.push(b'\n');
+        self.0.extend(&[digit(guard.constant % 10), b'\n']);
+    }
+
+    fn reset(&mut self, clock: u8) {
+        self.0.extend(b"zero ");
+        self.0.extend(&[digit(clock.into()), b'\n']);
+    }
+
+    fn step(&mut self, _: u8) {
+        self.0.extend(b"step\n");
     }
 }
 
-/// A number in decimal.
-fn put_number(card: &mut Vec<u8>, number: u16) {
-    if number >= 10 {
-        put_number(card, number / 10);
-    }
-    card.push(b'0' + (number % 10) as u8);
+/// A number below 10 in decimal.
+fn digit(number: u16) -> u8 {
+    b'0' + number as u8
 }
 
 /// Puts what a conversion gives in the first places of a room, where there are enough. How many bytes it is.

@@ -7,6 +7,8 @@
 //!
 //! A clock is 01's timer, a guard its bound, a reset its zeroing. Clocks are numbered from 1, as on the wire.
 
+use std::cell::RefCell;
+
 /// The most bytes of a table.
 pub const LONGEST: usize = 4096;
 /// The most clocks of a table.
@@ -110,9 +112,7 @@ pub enum Window<T> {
 
 /// "Read": the clocks, steps and guards of a table.
 pub fn read(bytes: &[u8]) -> Result<Counted, Refusal> {
-    let mut records = Records::of(bytes)?;
-    while !matches!(records.next()?, Record::End) {}
-    Ok(records.counted)
+    go_through(bytes, &mut ())
 }
 
 /// "Rounds": how many rounds a table allows.
@@ -132,38 +132,38 @@ pub fn plan(
 ) -> Result<Plan, Refusal> {
     let table = Table::parse(bytes)?;
     let total = table.total(k)?;
-    let parts = total + table.clocks + 1;
+    let clocks = table.counted.clocks;
     let refuse = |fault| Err(Refusal { fault, place: 0 });
     if times.len() < total {
         return refuse(Fault::Times);
     }
-    if starts.len() < table.clocks {
+    if starts.len() < clocks {
         return refuse(Fault::Starts);
     }
-    if room.len() < parts {
+    if room.len() < total + clocks + 1 {
         return refuse(Fault::Loop);
     }
-    let edges = Edges::of(&table, start, total);
-    match solve(&edges, start, total, parts) {
-        Ok(time) => {
-            for (place, &t) in times.iter_mut().zip(&time[1..=total]) {
-                *place = t as u64;
+    SPACE.with_borrow_mut(|space| {
+        space.demands.set(&table, total);
+        if let Some(first) = space.earliest(start) {
+            let mut length = 0;
+            for (place, moment) in room.iter_mut().zip(space.first.cycle(first)) {
+                *place = moment.into();
+                length += 1;
             }
-            let least = edges.least_starts(&time, total);
-            for (place, &s) in starts.iter_mut().zip(&least[..table.clocks]) {
-                *place = s as u64;
-            }
-            let parts = parts as u64;
-            Ok(Plan::Found { parts })
+            return Ok(Plan::Loop { length });
         }
-        Err(cycle) => {
-            for (place, &vertex) in room.iter_mut().zip(&cycle) {
-                *place = u64::from(vertex);
-            }
-            let length = cycle.len();
-            Ok(Plan::Loop { length })
+        let time = &space.first.time;
+        for (place, &t) in times.iter_mut().zip(&time[1..=total]) {
+            *place = t as u64;
         }
-    }
+        let least = space.demands.least_starts(time);
+        for (place, &s) in starts.iter_mut().zip(&least[..clocks]) {
+            *place = s as u64;
+        }
+        let parts = space.demands.moments() as u64;
+        Ok(Plan::Found { parts })
+    })
 }
 
 /// "Demands for k": their number, with four numbers for each (from, to, bound, strict) in the first places of `row`.
@@ -171,13 +171,13 @@ pub fn demands(bytes: &[u8], start: Start, k: u64, row: &mut [i64]) -> Result<us
     let table = Table::parse(bytes)?;
     let total = table.total(k)?;
     let exact = |g: &&Guard| g.relation == Relation::Exactly;
-    let all = table.guards[..table.ends[table.steps]].iter();
-    let of_round = table.steps + all.len() + all.filter(exact).count();
+    let all = table.guards[..table.ends[table.counted.steps]].iter();
+    let of_round = table.counted.steps + all.len() + all.filter(exact).count();
     let of_clock = match start {
         Start::LogIn => 2,
         Start::MidShift => 1,
     };
-    let number = total / table.steps * of_round + table.clocks * of_clock;
+    let number = total / table.counted.steps * of_round + table.counted.clocks * of_clock;
     if row.len() < 4 * number {
         return Err(Refusal {
             fault: Fault::List,
@@ -191,7 +191,7 @@ pub fn demands(bytes: &[u8], start: Start, k: u64, row: &mut [i64]) -> Result<us
         }
     };
     let mut last = resets_before(total);
-    for (i, step) in (1..=total).zip((0..table.steps).cycle()) {
+    for (i, step) in (1..=total).zip((0..table.counted.steps).cycle()) {
         put(i, i - 1, 0, false);
         for g in table.guards_of(step) {
             let (z, c) = (last[usize::from(g.clock)], i64::from(g.constant));
@@ -208,7 +208,7 @@ pub fn demands(bytes: &[u8], start: Start, k: u64, row: &mut [i64]) -> Result<us
         }
         table.reset(step, i, &mut last);
     }
-    for j in 1..=table.clocks {
+    for j in 1..=table.counted.clocks {
         put(0, total + j, 0, false);
         if start == Start::LogIn {
             put(total + j, 0, 0, false);
@@ -233,98 +233,86 @@ pub fn windows(
             place: 0,
         });
     }
-    let (parts, spans) = spans_of(&table, total);
-    let places = marks.iter_mut().zip(times.chunks_exact_mut(2));
-    for ((mark, pair), span) in places.zip(spans) {
-        (*mark, [pair[0], pair[1]]) = shown(in_seconds(span, parts));
-    }
+    let parts = table.parts(total);
+    SPACE.with_borrow_mut(|space| {
+        let places = marks.iter_mut().zip(times.chunks_exact_mut(2));
+        for ((mark, pair), span) in places.zip(space.spans(&table, total)) {
+            (*mark, [pair[0], pair[1]]) = shown(in_seconds(span, parts));
+        }
+    });
     Ok(total)
 }
 
 /// The panel's "widest for k": the widest closed window, the first among equals, in seconds; or absent, where none is closed.
 pub fn widest(bytes: &[u8], k: u64) -> Result<Window<f64>, Refusal> {
     let table = Table::parse(bytes)?;
-    let (parts, spans) = spans_of(&table, table.total(k)?);
+    let total = table.total(k)?;
     let mut widest: Option<(i64, i64)> = None;
-    for span in spans {
-        if let Window::Closed(a, b) = span {
-            if widest.is_none_or(|(c, d)| b - a > d - c) {
-                widest = Some((a, b));
+    SPACE.with_borrow_mut(|space| {
+        for span in space.spans(&table, total) {
+            if let Window::Closed(a, b) = span {
+                if widest.is_none_or(|(c, d)| b - a > d - c) {
+                    widest = Some((a, b));
+                }
             }
         }
-    }
+    });
     let window = widest.map_or(Window::Absent, |(a, b)| Window::Closed(a, b));
-    Ok(in_seconds(window, parts))
+    Ok(in_seconds(window, table.parts(total)))
 }
 
 /// The parts to a tick of k rounds from log-in, and the window of each step in parts.
 pub fn spans(bytes: &[u8], k: u64) -> Result<(u64, Vec<Window<i64>>), Refusal> {
     let table = Table::parse(bytes)?;
-    Ok(spans_of(&table, table.total(k)?))
+    let total = table.total(k)?;
+    let spans = SPACE.with_borrow_mut(|space| space.spans(&table, total).collect());
+    Ok((table.parts(total), spans))
 }
 
 // Reading.
 
-/// A record of a table.
-pub enum Record {
-    Head,
-    Guard(Guard),
-    Reset(u8),
-    Step,
-    End,
+/// What the records of a table are handed to, from the left.
+pub trait Take {
+    /// The head, with the number of clocks.
+    fn head(&mut self, _clocks: u8) {}
+    fn guard(&mut self, _guard: Guard) {}
+    fn reset(&mut self, _clock: u8) {}
+    /// A step finished, with the clocks that it resets, as bits.
+    fn step(&mut self, _resets: u8) {}
 }
 
-/// The records of a table, from the left, each with 01's tests.
-pub struct Records<'a> {
-    bytes: &'a [u8],
-    at: usize,
-    pub counted: Counted,
-    /// Whether a guard or reset stands since the last finished step.
-    open: bool,
-    /// The clocks reset since then, as bits.
-    reset: u8,
-}
+impl Take for () {}
 
-impl<'a> Records<'a> {
-    pub fn of(bytes: &'a [u8]) -> Result<Self, Refusal> {
-        if bytes.len() > LONGEST {
-            return Err(Refusal {
-                fault: Fault::Length,
-                place: LONGEST,
-            });
-        }
-        Ok(Records {
-            bytes,
-            at: 0,
-            counted: Counted::default(),
-            open: false,
-            reset: 0,
-        })
-    }
-
-    /// The next record. It is made part of each loop that asks for it: a call of its own takes reading twice the time.
-    #[inline(always)]
-    pub fn next(&mut self) -> Result<Record, Refusal> {
-        let place = self.at;
-        let refuse = |fault| Err(Refusal { fault, place });
-        match self.bytes[place..] {
-            [] => refuse(Fault::Cut),
-            [0 | 6.., ..] => refuse(Fault::Kind),
-            [kind, ..] if (kind == 1) != (place == 0) => refuse(Fault::Head),
-            [1, clocks, ..] => {
-                if !(1..=CLOCKS).contains(&usize::from(clocks)) {
-                    return refuse(Fault::Head);
-                }
-                self.counted.clocks = usize::from(clocks);
-                self.at += 2;
-                Ok(Record::Head)
-            }
-            [2, clock, relation, low, high, ..] => {
+/// Goes through the records of a table with 01's tests, and hands on those that pass.
+pub fn go_through(bytes: &[u8], taker: &mut impl Take) -> Result<Counted, Refusal> {
+    let refuse = |fault, place| Err(Refusal { fault, place });
+    let clocks = match *bytes {
+        _ if bytes.len() > LONGEST => return refuse(Fault::Length, LONGEST),
+        [] | [1] => return refuse(Fault::Cut, 0),
+        [0 | 6.., ..] => return refuse(Fault::Kind, 0),
+        [1, clocks, ..] if (1..=CLOCKS).contains(&clocks.into()) => clocks,
+        _ => return refuse(Fault::Head, 0),
+    };
+    taker.head(clocks);
+    let (mut guards, mut steps) = (0, 0);
+    // Whether a guard or reset stands since the last finished step, and the clocks reset since then, as bits.
+    let (mut open, mut resets) = (false, 0u32);
+    let mut at = 2;
+    loop {
+        let refuse = |fault| refuse(fault, at);
+        let Some(&kind) = bytes.get(at) else {
+            return refuse(Fault::Cut);
+        };
+        match kind {
+            2 => {
+                let Some(&[clock, relation, low, high]) = bytes[at + 1..].first_chunk() else {
+                    return refuse(Fault::Cut);
+                };
                 let constant = u16::from_le_bytes([low, high]);
-                if self.counted.guards == GUARDS {
+                if guards == GUARDS {
                     return refuse(Fault::Bounds);
                 }
-                if !self.has(clock) {
+                if !(1..=clocks).contains(&clock) {
                     return refuse(Fault::Timer);
                 }
                 let Some(relation) = relation_of(relation) else {
@@ -333,56 +321,58 @@ impl<'a> Records<'a> {
                 if constant > CONSTANT {
                     return refuse(Fault::Constant);
                 }
-                self.counted.guards += 1;
-                self.open = true;
-                self.at += 5;
-                Ok(Record::Guard(Guard {
+                guards += 1;
+                open = true;
+                at += 5;
+                taker.guard(Guard {
                     clock,
                     relation,
                     constant,
-                }))
+                });
             }
-            [3, clock, ..] => {
-                if !self.has(clock) {
+            3 => {
+                let Some(&[clock]) = bytes[at + 1..].first_chunk() else {
+                    return refuse(Fault::Cut);
+                };
+                if !(1..=clocks).contains(&clock) {
                     return refuse(Fault::Timer);
                 }
-                if self.reset >> clock & 1 == 1 {
+                if resets >> clock & 1 == 1 {
                     return refuse(Fault::Twice);
                 }
-                self.open = true;
-                self.reset |= 1 << clock;
-                self.at += 2;
-                Ok(Record::Reset(clock))
+                open = true;
+                resets |= 1 << clock;
+                at += 2;
+                taker.reset(clock);
             }
-            [4, ..] => {
-                if self.counted.steps == STEPS {
+            4 => {
+                if steps == STEPS {
                     return refuse(Fault::Steps);
                 }
-                self.counted.steps += 1;
-                self.open = false;
-                self.reset = 0;
-                self.at += 1;
-                Ok(Record::Step)
+                taker.step(resets as u8);
+                steps += 1;
+                (open, resets) = (false, 0);
+                at += 1;
             }
-            [5, ref tail @ ..] => {
-                if self.counted.steps == 0 || self.open {
+            5 => {
+                if steps == 0 || open {
                     return refuse(Fault::Steps);
                 }
-                if !tail.is_empty() {
-                    return Err(Refusal {
-                        fault: Fault::Tail,
-                        place: place + 1,
-                    });
-                }
-                Ok(Record::End)
+                at += 1;
+                break;
             }
-            _ => refuse(Fault::Cut),
+            1 => return refuse(Fault::Head),
+            _ => return refuse(Fault::Kind),
         }
     }
-
-    fn has(&self, clock: u8) -> bool {
-        (1..=self.counted.clocks).contains(&usize::from(clock))
+    if at < bytes.len() {
+        return refuse(Fault::Tail, at);
     }
+    Ok(Counted {
+        clocks: clocks.into(),
+        steps,
+        guards,
+    })
 }
 
 fn relation_of(byte: u8) -> Option<Relation> {
@@ -406,13 +396,12 @@ fn resets_before(total: usize) -> Resets {
 
 /// A legal table.
 pub struct Table {
-    pub clocks: usize,
-    pub steps: usize,
+    pub counted: Counted,
     guards: [Guard; GUARDS],
     /// Step i has the guards from place `ends[i]` up to place `ends[i + 1]`.
     ends: [usize; STEPS + 1],
     /// The clocks that each step resets, as bits.
-    resets: [u8; STEPS],
+    pub resets: [u8; STEPS],
 }
 
 impl Table {
@@ -422,46 +411,30 @@ impl Table {
             relation: Relation::Under,
             constant: 0,
         };
-        let (mut guards, mut ends, mut resets) = ([none; GUARDS], [0; STEPS + 1], [0; STEPS]);
-        let mut open = 0;
-        let mut records = Records::of(bytes)?;
-        loop {
-            let record = records.next()?;
-            let Counted {
-                clocks,
-                steps,
-                guards: number,
-            } = records.counted;
-            match record {
-                Record::Head => {}
-                Record::Guard(guard) => guards[number - 1] = guard,
-                Record::Reset(clock) => open |= 1 << clock,
-                Record::Step => {
-                    ends[steps] = number;
-                    resets[steps - 1] = std::mem::take(&mut open);
-                }
-                Record::End => {
-                    return Ok(Table {
-                        clocks,
-                        steps,
-                        guards,
-                        ends,
-                        resets,
-                    });
-                }
-            }
-        }
+        let mut table = Table {
+            counted: Counted::default(),
+            guards: [none; GUARDS],
+            ends: [0; STEPS + 1],
+            resets: [0; STEPS],
+        };
+        table.counted = go_through(bytes, &mut table)?;
+        Ok(table)
     }
 
     /// The steps of k rounds.
     fn total(&self, k: u64) -> Result<usize, Refusal> {
         let total = usize::try_from(k)
             .ok()
-            .and_then(|k| k.checked_mul(self.steps));
+            .and_then(|k| k.checked_mul(self.counted.steps));
         total.filter(|t| (1..=TOTAL).contains(t)).ok_or(Refusal {
             fault: Fault::Rounds,
             place: 0,
         })
+    }
+
+    /// The parts to a tick in a plan of so many steps.
+    fn parts(&self, total: usize) -> u64 {
+        (total + self.counted.clocks + 1) as u64
     }
 
     /// The guards of a step, counted from 0.
@@ -476,68 +449,131 @@ impl Table {
 
     /// The resets of a step take place at a moment.
     fn reset(&self, step: usize, moment: usize, last: &mut Resets) {
-        for j in 1..=self.clocks {
+        for j in 1..=self.counted.clocks {
             if self.resets(step, j) {
                 last[j] = moment;
             }
         }
     }
+
+    /// From how many steps ago each clock was reset at a step, the same at the next.
+    fn age(&self, step: usize, ago: &mut [usize; CLOCKS + 1]) {
+        for j in 1..=self.counted.clocks {
+            let reset = self.resets(step, j);
+            ago[j] = if reset { 1 } else { ago[j].saturating_add(1) };
+        }
+    }
+}
+
+/// The records of a table, which fill it in.
+impl Take for Table {
+    fn guard(&mut self, guard: Guard) {
+        self.guards[self.counted.guards] = guard;
+        self.counted.guards += 1;
+    }
+
+    fn step(&mut self, resets: u8) {
+        self.resets[self.counted.steps] = resets;
+        self.counted.steps += 1;
+        self.ends[self.counted.steps] = self.counted.guards;
+    }
 }
 
 // Planning: the longest paths of the demands, in parts.
 
-/// A demand in parts: time(from) >= time(to) + weight.
+/// A demand between a step and an earlier moment, which lies so many steps ago, or is another where the plan does not reach back so
+/// far. One of the two is to be at least `weight` after the other.
 #[derive(Clone, Copy)]
-struct Edge {
-    from: u16,
-    to: u16,
-    weight: i32,
+struct Demand {
+    ago: usize,
+    or_else: usize,
+    weight: i64,
 }
 
-/// The tightest demands of a plan: in each step one of each clock and side. In the order of the moments, with the last resets
-/// before the start first, those of `forth` raise a later moment after an earlier one, and those of `back` an earlier one after
-/// a later one. Both stand in the order of the later moment.
-struct Edges {
-    forth: Vec<Edge>,
-    back: Vec<Edge>,
+impl Demand {
+    /// The earlier moment, where the step is moment i.
+    fn earlier(&self, i: usize) -> usize {
+        if self.ago < i {
+            i - self.ago
+        } else {
+            self.or_else
+        }
+    }
 }
 
-impl Edges {
-    fn of(table: &Table, start: Start, total: usize) -> Edges {
-        let edge = |from: usize, to: usize, weight: i32| Edge {
-            from: from as u16,
-            to: to as u16,
-            weight,
-        };
-        let parts = (total + table.clocks + 1) as i32;
-        let mut tight = [Tight::default(); STEPS];
-        for (step, tight) in tight[..table.steps].iter_mut().enumerate() {
-            *tight = tightest(table.guards_of(step), parts);
+/// Demands of each step of a round.
+#[derive(Default)]
+struct Side {
+    demands: Vec<Demand>,
+    /// Step s has those from place `ends[s]` up to place `ends[s + 1]`.
+    ends: [usize; STEPS + 1],
+}
+
+impl Side {
+    fn of(&self, step: usize) -> &[Demand] {
+        &self.demands[self.ends[step]..self.ends[step + 1]]
+    }
+}
+
+/// The tightest demands of so many steps. Those of `lower` are that the step is after the earlier moment: the order of the steps, and
+/// for each clock one guard from below. Those of `upper` are the other way round: for each clock one guard from above.
+#[derive(Default)]
+struct Demands {
+    clocks: usize,
+    steps: usize,
+    total: usize,
+    lower: Side,
+    upper: Side,
+}
+
+impl Demands {
+    /// Those of a table.
+    fn set(&mut self, table: &Table, total: usize) {
+        let Counted { clocks, steps, .. } = table.counted;
+        (self.clocks, self.steps, self.total) = (clocks, steps, total);
+        let parts = self.moments() as i64;
+        self.lower.demands.clear();
+        self.upper.demands.clear();
+        // How many steps ago each clock was reset, in rounds without end. For the first step it is known after a round.
+        let mut ago = [usize::MAX; CLOCKS + 1];
+        for step in 0..steps {
+            table.age(step, &mut ago);
         }
-        let mut forth = Vec::with_capacity(2 * (total + table.clocks));
-        let mut back = Vec::with_capacity(total + table.clocks);
-        forth.extend((1..=table.clocks).map(|j| edge(0, total + j, 0)));
-        if start == Start::LogIn {
-            back.extend((1..=table.clocks).map(|j| edge(total + j, 0, 0)));
-        }
-        let mut last = resets_before(total);
-        for (i, step) in (1..=total).zip((0..table.steps).cycle()) {
-            forth.push(edge(i, i - 1, 0));
-            for j in 1..=table.clocks {
-                forth.extend(tight[step].least[j].map(|w| edge(i, last[j], w)));
-                back.extend(tight[step].most[j].map(|w| edge(last[j], i, -w)));
+        for step in 0..steps {
+            let tight = tightest(table.guards_of(step), parts);
+            self.lower.demands.push(Demand {
+                ago: 1,
+                or_else: 0,
+                weight: 0,
+            });
+            for j in 1..=clocks {
+                let demand = |weight| Demand {
+                    ago: ago[j],
+                    or_else: total + j,
+                    weight,
+                };
+                self.lower.demands.extend(tight.least[j].map(demand));
+                self.upper.demands.extend(tight.most[j].map(|w| demand(-w)));
             }
-            table.reset(step, i, &mut last);
+            self.lower.ends[step + 1] = self.lower.demands.len();
+            self.upper.ends[step + 1] = self.upper.demands.len();
+            table.age(step, &mut ago);
         }
-        Edges { forth, back }
     }
 
-    /// The smallest starts of the clocks for the times of the moments.
-    fn least_starts(&self, time: &[i64], total: usize) -> [i64; CLOCKS] {
+    /// The start, the steps, and the last reset of each clock before the start. As many parts has a tick.
+    fn moments(&self) -> usize {
+        1 + self.total + self.clocks
+    }
+
+    /// The smallest starts of the clocks for the times of the moments. Steps of later rounds are no earlier, and ask no more.
+    fn least_starts(&self, time: &[i64]) -> [i64; CLOCKS] {
         let mut least = [0; CLOCKS];
-        for edge in &self.forth {
-            if let Some(j) = usize::from(edge.to).checked_sub(total + 1) {
-                least[j] = least[j].max(i64::from(edge.weight) - time[usize::from(edge.from)]);
+        for i in 1..=self.steps {
+            for demand in self.lower.of(i - 1) {
+                if let Some(j) = demand.earlier(i).checked_sub(self.total + 1) {
+                    least[j] = least[j].max(demand.weight - time[i]);
+                }
             }
         }
         least
@@ -545,16 +581,16 @@ impl Edges {
 }
 
 /// For each clock by its number, the least and the most that a step's guards let it read, in parts.
-#[derive(Clone, Copy, Default)]
+#[derive(Default)]
 struct Tight {
-    least: [Option<i32>; CLOCKS + 1],
-    most: [Option<i32>; CLOCKS + 1],
+    least: [Option<i64>; CLOCKS + 1],
+    most: [Option<i64>; CLOCKS + 1],
 }
 
-fn tightest(guards: &[Guard], parts: i32) -> Tight {
+fn tightest(guards: &[Guard], parts: i64) -> Tight {
     let mut tight = Tight::default();
     for guard in guards {
-        let (j, c) = (usize::from(guard.clock), i32::from(guard.constant) * parts);
+        let (j, c) = (usize::from(guard.clock), i64::from(guard.constant) * parts);
         let (least, most) = match guard.relation {
             Relation::Under => (None, Some(c - 1)),
             Relation::AtMost => (None, Some(c)),
@@ -569,153 +605,253 @@ fn tightest(guards: &[Guard], parts: i32) -> Tight {
     tight
 }
 
-/// The time of a last reset in mid-shift, before the start, that nothing bounds from below: below all that can be.
+/// The time of a moment that nothing has reached: below all that can be.
 const UNREACHED: i64 = i64::MIN / 2;
 
-/// The parent of a vertex that was not raised.
+/// The parent of a moment that was not raised.
 const NO_PARENT: u16 = u16::MAX;
 
-/// The least times that meet the edges, with the start at 0; or a cycle of edges that contradict each other. Passes go forth
-/// and back (Yen's order): each leaves its own edges met, so that one that raises nothing is the last. Or else the parents
-/// close a cycle.
-fn solve(edges: &Edges, start: Start, total: usize, vertices: usize) -> Result<Vec<i64>, Vec<u16>> {
-    let mut time = vec![0; vertices];
-    if start == Start::MidShift {
-        time[total + 1..].fill(UNREACHED);
-    }
-    let mut parent = vec![NO_PARENT; vertices];
-    let mut marks = vec![0; vertices];
-    pass(edges.forth.iter(), &mut time, &mut parent);
-    while pass(edges.back.iter().rev(), &mut time, &mut parent)
-        && pass(edges.forth.iter(), &mut time, &mut parent)
-    {
-        if let Some(vertex) = on_cycle(&parent, &mut marks) {
-            let next = |&v: &u16| Some(parent[usize::from(v)]).filter(|&u| u != vertex);
-            return Err(std::iter::successors(Some(vertex), next).collect());
-        }
-    }
-    Ok(time)
+/// How many passes of a plan go before the first way home, and before the last; and the most checks of such a way, by those of a pass.
+const PLAIN: usize = 3;
+const TRIES: usize = 16;
+const HOME: usize = 2;
+
+/// The most checks of the way home to the latest times, by those of a pass.
+const LATE: usize = 16;
+
+/// Moments, each with its time and with its parent, the moment after which it was raised.
+#[derive(Default)]
+struct Moments {
+    time: Vec<i64>,
+    parent: Vec<u16>,
+    marks: Vec<u16>,
 }
 
-/// Raises times as edges in turn demand; whether one was raised.
-fn pass<'a>(edges: impl Iterator<Item = &'a Edge>, time: &mut [i64], parent: &mut [u16]) -> bool {
-    let mut raised = false;
-    for edge in edges {
-        let least = time[usize::from(edge.to)] + i64::from(edge.weight);
-        let from = usize::from(edge.from);
-        if time[from] < least {
-            time[from] = least;
-            parent[from] = edge.to;
-            raised = true;
-        }
+impl Moments {
+    /// The start and the steps get a time, and the last resets before the start another.
+    fn set(&mut self, demands: &Demands, steps: i64, resets: i64) {
+        self.time.clear();
+        self.time.resize(demands.total + 1, steps);
+        self.time.resize(demands.moments(), resets);
+        self.parent.clear();
+        self.parent.resize(demands.moments(), NO_PARENT);
     }
-    raised
-}
 
-/// A vertex on a cycle of parents. Each walk leaves its own marks and stops at any.
-fn on_cycle(parent: &[u16], marks: &mut [u16]) -> Option<u16> {
-    marks.fill(0);
-    for (start, walk) in (0..parent.len()).zip(1..) {
-        let mut vertex = start;
-        while marks[vertex] == 0 && parent[vertex] != NO_PARENT {
-            marks[vertex] = walk;
-            vertex = usize::from(parent[vertex]);
+    /// Raises a moment to a weight after another; whether it was below.
+    fn raise(&mut self, moment: usize, after: usize, weight: i64) -> bool {
+        let least = self.time[after] + weight;
+        let below = self.time[moment] < least;
+        if below {
+            self.time[moment] = least;
+            self.parent[moment] = after as u16;
         }
-        if marks[vertex] == walk {
-            return Some(vertex as u16);
-        }
+        below
     }
-    None
-}
 
-// Windows: the shortest paths from the start too.
-
-/// The latest time of a step that nothing bounds from above: above all that can be.
-const UNBOUNDED: i64 = i64::MAX / 2;
-
-fn spans_of(table: &Table, total: usize) -> (u64, Vec<Window<i64>>) {
-    let parts = total + table.clocks + 1;
-    let edges = Edges::of(table, Start::LogIn, total);
-    let spans = match solve(&edges, Start::LogIn, total, parts) {
-        Ok(first) => {
-            let last = latest(&edges, total, parts);
-            let ends = first.into_iter().zip(last);
-            ends.skip(1)
-                .take(total)
-                .map(|(first, last)| match last {
-                    UNBOUNDED => Window::Open(first),
-                    _ => Window::Closed(first, last),
-                })
-                .collect()
-        }
-        Err(_) => vec![Window::Absent; total],
-    };
-    (parts as u64, spans)
-}
-
-/// The greatest times that meet the edges, with the start and the last resets before it at 0, where some times do. Here the
-/// edges of `back` lower a later moment after an earlier one, and those of `forth` an earlier one after a later one. One pass goes
-/// forth over all steps and one back. In those forth after them, each step that is lowered is followed by a pass back from it, as
-/// far as it lowers others; one forth that lowers nothing is the last.
-fn latest(edges: &Edges, total: usize, vertices: usize) -> Vec<i64> {
-    let mut time = vec![UNBOUNDED; vertices];
-    time[0] = 0;
-    time[total + 1..].fill(0);
-    let lower = begins(edges.forth.iter().map(|edge| edge.from), total);
-    let upper = begins(edges.back.iter().map(|edge| edge.to), total);
-    let forth = |i: usize, time: &mut [i64]| lowered(&edges.back[upper[i]..upper[i + 1]], time);
-    let back = |i: usize, time: &mut [i64]| lowered(&edges.forth[lower[i]..lower[i + 1]], time);
-    for i in 1..=total {
-        forth(i, &mut time);
-    }
-    for i in (1..=total).rev() {
-        back(i, &mut time);
-    }
-    loop {
-        let mut done = true;
-        for i in 1..=total {
-            if forth(i, &mut time) == usize::MAX {
-                continue;
+    /// A moment on a cycle of parents. Each walk leaves its own marks and stops at any.
+    fn on_cycle(&mut self) -> Option<u16> {
+        self.marks.clear();
+        self.marks.resize(self.parent.len(), 0);
+        for (start, walk) in (0..self.parent.len()).zip(1..) {
+            let mut moment = start;
+            while self.marks[moment] == 0 && self.parent[moment] != NO_PARENT {
+                self.marks[moment] = walk;
+                moment = usize::from(self.parent[moment]);
             }
-            done = false;
-            let (mut at, mut least) = (i, i);
-            while at >= least && at > 0 {
-                least = least.min(back(at, &mut time));
-                at -= 1;
+            if self.marks[moment] == walk {
+                return Some(moment as u16);
             }
         }
-        if done {
-            return time;
-        }
+        None
+    }
+
+    /// The moments of the cycle of parents that a moment is on.
+    fn cycle(&self, first: u16) -> impl Iterator<Item = u16> + '_ {
+        let next = move |&m: &u16| Some(self.parent[usize::from(m)]).filter(|&p| p != first);
+        std::iter::successors(Some(first), next)
     }
 }
 
-/// For each step the first place of its edges, where the later moments of all are these.
-fn begins(later: impl ExactSizeIterator<Item = u16>, total: usize) -> Vec<usize> {
-    let edges = later.len();
-    let mut begins = Vec::with_capacity(total + 2);
-    for (place, step) in later.enumerate() {
-        while begins.len() <= usize::from(step) {
-            begins.push(place);
-        }
-    }
-    begins.resize(total + 2, edges);
-    begins
+/// Ways over the steps of a plan, on which demands raise moments: those of `forth` the step, those of `back` the earlier moment.
+struct Walk<'a> {
+    start: Start,
+    demands: &'a Demands,
+    forth: &'a Side,
+    back: &'a Side,
+    moments: &'a mut Moments,
 }
 
-/// Lowers times as edges demand; the first vertex that was lowered, or the greatest number.
-fn lowered(edges: &[Edge], time: &mut [i64]) -> usize {
-    let mut first = usize::MAX;
-    for edge in edges {
-        let from = time[usize::from(edge.from)];
-        let to = usize::from(edge.to);
-        if from != UNBOUNDED && from - i64::from(edge.weight) < time[to] {
-            time[to] = from - i64::from(edge.weight);
-            first = first.min(to);
+impl Walk<'_> {
+    /// Raises the moments until all demands are met; or, where they contradict each other, until the parents close a cycle: a moment
+    /// on it. Passes go forth and back (Yen's order). Each way leaves its own demands met, so that one that raises nothing is the
+    /// last. After some passes a way home goes before each, and after some more plain passes go on.
+    fn settle(&mut self) -> Option<u16> {
+        self.go_forth();
+        let mut passes = 0;
+        loop {
+            passes += 1;
+            if !self.go_back() {
+                return None;
+            }
+            if (PLAIN..TRIES).contains(&passes) {
+                self.go_home(HOME);
+                self.go_forth();
+            } else if !self.go_forth() {
+                return None;
+            }
+            let found = self.moments.on_cycle();
+            if found.is_some() {
+                return found;
+            }
         }
     }
-    first
+
+    /// Forth over all steps; whether a moment was raised. Log-in resets the clocks.
+    fn go_forth(&mut self) -> bool {
+        let total = self.demands.total;
+        let mut raised = false;
+        if self.start == Start::LogIn {
+            for j in 1..=self.demands.clocks {
+                raised |= self.moments.raise(total + j, 0, 0);
+            }
+        }
+        for (i, step) in (1..=total).zip((0..self.demands.steps).cycle()) {
+            raised |= self.forth(i, step);
+        }
+        raised
+    }
+
+    /// Back over all steps; whether a moment was raised. The last resets before the start are not after it.
+    fn go_back(&mut self) -> bool {
+        let total = self.demands.total;
+        let mut raised = false;
+        for (i, step) in (1..=total).rev().zip((0..self.demands.steps).rev().cycle()) {
+            raised |= self.back(i, step) < usize::MAX;
+        }
+        for j in 1..=self.demands.clocks {
+            raised |= self.moments.raise(0, total + j, 0);
+        }
+        raised
+    }
+
+    /// A way home, after one back: forth step by step, and from each step that is raised back at once to the lowest moment that is
+    /// raised with it, and on after that. Cut after the checks of so many passes; whether it has come to the end, where all demands of
+    /// the steps are met.
+    fn go_home(&mut self, passes: usize) -> bool {
+        let (steps, total) = (self.demands.steps, self.demands.total);
+        let pass = total / steps * (self.forth.demands.len() + self.back.demands.len());
+        let mut checks = 0;
+        let (mut i, mut step) = (1, 0);
+        while i <= total && checks < passes * pass {
+            checks += self.forth.of(step).len();
+            let mut lowest = i;
+            if self.forth(i, step) {
+                let (mut at, mut step) = (i, step);
+                while at >= lowest {
+                    checks += self.back.of(step).len();
+                    lowest = lowest.min(self.back(at, step));
+                    at -= 1;
+                    step = step.checked_sub(1).unwrap_or(steps - 1);
+                }
+            }
+            step = match step + 1 {
+                next if lowest == i && next < steps => next,
+                _ => lowest % steps,
+            };
+            i = lowest + 1;
+        }
+        i > total
+    }
+
+    /// Raises moment i, of this step of a round, after earlier ones; whether it was raised.
+    fn forth(&mut self, i: usize, step: usize) -> bool {
+        let mut raised = false;
+        for demand in self.forth.of(step) {
+            raised |= self.moments.raise(i, demand.earlier(i), demand.weight);
+        }
+        raised
+    }
+
+    /// Raises earlier moments after moment i, of this step of a round; the lowest that was raised, or the greatest number.
+    fn back(&mut self, i: usize, step: usize) -> usize {
+        let mut lowest = usize::MAX;
+        if self.moments.time[i] != UNREACHED {
+            for demand in self.back.of(step) {
+                let earlier = demand.earlier(i);
+                if self.moments.raise(earlier, i, demand.weight) {
+                    lowest = lowest.min(earlier);
+                }
+            }
+        }
+        lowest
+    }
 }
+
+/// Room to work in, which is kept from question to question.
+#[derive(Default)]
+struct Space {
+    demands: Demands,
+    first: Moments,
+    last: Moments,
+}
+
+thread_local! {
+    static SPACE: RefCell<Space> = RefCell::default();
+}
+
+impl Space {
+    /// The earliest times of all moments, with the start at 0; or a moment on a cycle of demands that contradict each other. In
+    /// mid-shift a clock may read more than any guard asks for.
+    fn earliest(&mut self, start: Start) -> Option<u16> {
+        let resets = match start {
+            Start::LogIn => 0,
+            Start::MidShift => -i64::from(CONSTANT + 1) * self.demands.moments() as i64,
+        };
+        self.first.set(&self.demands, 0, resets);
+        let mut walk = Walk {
+            start,
+            demands: &self.demands,
+            forth: &self.demands.lower,
+            back: &self.demands.upper,
+            moments: &mut self.first,
+        };
+        walk.settle()
+    }
+
+    /// The latest times from log-in, where a run exists, with the sign turned round: so that the same demands raise the earlier moment
+    /// where they raised the later one, and the later where they raised the earlier. A pass, a way home, and where that is cut passes.
+    fn latest(&mut self) {
+        self.last.set(&self.demands, UNREACHED, 0);
+        self.last.time[0] = 0;
+        let mut walk = Walk {
+            start: Start::LogIn,
+            demands: &self.demands,
+            forth: &self.demands.upper,
+            back: &self.demands.lower,
+            moments: &mut self.last,
+        };
+        walk.go_forth();
+        if walk.go_back() && !walk.go_home(LATE) {
+            while walk.go_forth() && walk.go_back() {}
+        }
+    }
+
+    /// The windows of all steps of a plan from log-in, in parts.
+    fn spans(&mut self, table: &Table, total: usize) -> impl Iterator<Item = Window<i64>> + '_ {
+        self.demands.set(table, total);
+        let run = self.earliest(Start::LogIn).is_none();
+        if run {
+            self.latest();
+        }
+        (1..=total).map(move |i| match (run, self.last.time.get(i)) {
+            (true, Some(&UNREACHED)) => Window::Open(self.first.time[i]),
+            (true, Some(last)) => Window::Closed(self.first.time[i], -last),
+            _ => Window::Absent,
+        })
+    }
+}
+
+// Windows, as the panel shows them.
 
 /// A tick is a tenth of a second.
 fn seconds(moment: i64, parts: u64) -> f64 {
@@ -778,7 +914,7 @@ struct Effect {
 impl Effect {
     /// The effect of a step, if it can be done at all.
     fn of_step(table: &Table, step: usize) -> Option<Effect> {
-        let side = table.clocks + 1;
+        let side = table.counted.clocks + 1;
         let mut bounds = [[NONE; 2 * SIDE]; 2 * SIDE];
         let mut put = |from: usize, to: usize, bound: Bound| {
             bounds[from][to] = bounds[from][to].min(bound);
@@ -878,7 +1014,7 @@ fn close<const N: usize>(
 /// The effect of one round of a table, if it can be done at all.
 fn effect_of_round(table: &Table) -> Option<Effect> {
     let mut effect = Effect::of_step(table, 0)?;
-    for step in 1..table.steps {
+    for step in 1..table.counted.steps {
         effect = effect.then(&Effect::of_step(table, step)?)?;
     }
     Some(effect)

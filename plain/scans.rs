@@ -1,17 +1,13 @@
 //! Log-in, scans and trays of them in plain Rust, by the words of 02. The proved libraries are compared with it, in what they
 //! answer (terminal/compare.rs) and in how long they take (bench/bench.rs).
 
-use crate::plain::{Fault, Guard, Refusal, Relation, Table, CLOCKS};
-use std::ops::RangeInclusive;
+use crate::plain::{go_through, Counted, Fault, Guard, Refusal, Relation, Table, Take, CLOCKS};
 
 /// The reading at which a clock is held.
 pub const HELD: u16 = 4001;
 
 /// The most scans of a tray.
 pub const TRAY: usize = 256;
-
-/// Counters on their circle.
-const CIRCLE: i32 = 65_536;
 
 /// A running record: the next step, from 1; what the clocks read, in whole ticks; and the counter of the last accepted scan, or of
 /// log-in.
@@ -38,12 +34,51 @@ pub fn log_in(counter: u16) -> Running {
     }
 }
 
+/// A scan, judged on the way through the records. What comes of it counts where the table and the record are accepted.
 pub fn scan(bytes: &[u8], running: Running, counter: u16) -> Result<Verdict, Refusal> {
-    let table = Table::parse(bytes)?;
-    if !fits(&table, &running) {
-        return refuse(Fault::Record);
+    let mut scan = Scan {
+        next: running.step,
+        readings: running.readings_at(counter),
+        step: 1,
+        guards: 0,
+        failed: None,
+        resets: 0,
+    };
+    let counted = go_through(bytes, &mut scan)?;
+    running.fits(counted)?;
+    Ok(match scan.failed {
+        Some(guard) => Verdict::TurnedAway(guard),
+        None => Verdict::Accepted(running.after(counted, scan.readings, scan.resets, counter)),
+    })
+}
+
+/// A scan on the way: the next step, and what the clocks read at it; the step that the records are of; and of the next step
+/// the guards so far, the first that does not hold, and the clocks that it resets, as bits.
+struct Scan {
+    next: u16,
+    readings: [u16; CLOCKS],
+    step: u16,
+    guards: usize,
+    failed: Option<usize>,
+    resets: u8,
+}
+
+impl Take for Scan {
+    fn guard(&mut self, guard: Guard) {
+        if self.step == self.next {
+            self.guards += 1;
+            if self.failed.is_none() && !holds(&guard, &self.readings) {
+                self.failed = Some(self.guards);
+            }
+        }
     }
-    Ok(judge(&table, running, counter))
+
+    fn step(&mut self, resets: u8) {
+        if self.step == self.next {
+            self.resets = resets;
+        }
+        self.step += 1;
+    }
 }
 
 /// A tray: scans at these counters, one after the other. The first places of `verdicts` get 0 for each that is accepted, and for
@@ -55,9 +90,7 @@ pub fn tray(
     verdicts: &mut [u16],
 ) -> Result<(Running, usize), Refusal> {
     let table = Table::parse(bytes)?;
-    if !fits(&table, &running) {
-        return refuse(Fault::Record);
-    }
+    running.fits(table.counted)?;
     if counters.len() > TRAY {
         return refuse(Fault::Tray);
     }
@@ -66,13 +99,16 @@ pub fn tray(
     }
     let mut accepted = 0;
     for (&counter, verdict) in counters.iter().zip(verdicts) {
-        *verdict = match judge(&table, running, counter) {
-            Verdict::Accepted(after) => {
-                running = after;
+        let step = usize::from(running.step) - 1;
+        let readings = running.readings_at(counter);
+        let fails = |guard: &Guard| !holds(guard, &readings);
+        *verdict = match table.guards_of(step).iter().position(fails) {
+            Some(place) => place as u16 + 1,
+            None => {
+                running = running.after(table.counted, readings, table.resets[step], counter);
                 accepted += 1;
                 0
             }
-            Verdict::TurnedAway(guard) => guard as u16,
         };
     }
     Ok((running, accepted))
@@ -82,40 +118,50 @@ fn refuse<T>(fault: Fault) -> Result<T, Refusal> {
     Err(Refusal { fault, place: 0 })
 }
 
-/// Whether a table can go on from a record.
-fn fits(table: &Table, running: &Running) -> bool {
-    let held = running.readings[..table.clocks].iter().all(|&r| r <= HELD);
-    (1..=table.steps).contains(&running.step.into()) && held
+impl Running {
+    /// Refused where a table of these numbers cannot go on from the record.
+    fn fits(&self, counted: Counted) -> Result<(), Refusal> {
+        let held = self.readings[..counted.clocks].iter().all(|&r| r <= HELD);
+        if (1..=counted.steps).contains(&self.step.into()) && held {
+            Ok(())
+        } else {
+            refuse(Fault::Record)
+        }
+    }
+
+    /// What the clocks read at a counter.
+    fn readings_at(&self, counter: u16) -> [u16; CLOCKS] {
+        let elapsed = counter.wrapping_sub(self.counter);
+        self.readings.map(|r| r.saturating_add(elapsed).min(HELD))
+    }
+
+    /// The record after a scan that is accepted, with these readings, at a step that resets these clocks.
+    fn after(
+        mut self,
+        counted: Counted,
+        readings: [u16; CLOCKS],
+        resets: u8,
+        counter: u16,
+    ) -> Running {
+        for clock in 1..=counted.clocks {
+            let reset = resets >> clock & 1 == 1;
+            self.readings[clock - 1] = if reset { 0 } else { readings[clock - 1] };
+        }
+        self.step = self.step % counted.steps as u16 + 1;
+        self.counter = counter;
+        self
+    }
 }
 
-/// A scan of a record that the table can go on from.
-fn judge(table: &Table, running: Running, counter: u16) -> Verdict {
-    let step = usize::from(running.step) - 1;
-    let elapsed = (i32::from(counter) - i32::from(running.counter)).rem_euclid(CIRCLE);
-    let reads = |clock: usize| (i32::from(running.readings[clock - 1]) + elapsed).min(HELD.into());
-    let fails = |g: &Guard| !allowed(g).contains(&reads(g.clock.into()));
-    if let Some(place) = table.guards_of(step).iter().position(fails) {
-        return Verdict::TurnedAway(place + 1);
-    }
-    let mut after = running;
-    for clock in 1..=table.clocks {
-        let reset = table.resets(step, clock);
-        after.readings[clock - 1] = if reset { 0 } else { reads(clock) as u16 };
-    }
-    after.step = ((step + 1) % table.steps) as u16 + 1;
-    after.counter = counter;
-    Verdict::Accepted(after)
-}
-
-/// The whole readings that a guard allows.
-fn allowed(guard: &Guard) -> RangeInclusive<i32> {
-    let constant = i32::from(guard.constant);
+/// Whether a guard holds of what the clocks read.
+fn holds(guard: &Guard, readings: &[u16; CLOCKS]) -> bool {
+    let reading = readings[usize::from(guard.clock) - 1];
     match guard.relation {
-        Relation::Under => 0..=constant - 1,
-        Relation::AtMost => 0..=constant,
-        Relation::Exactly => constant..=constant,
-        Relation::AtLeast => constant..=i32::MAX,
-        Relation::Over => constant + 1..=i32::MAX,
+        Relation::Under => reading < guard.constant,
+        Relation::AtMost => reading <= guard.constant,
+        Relation::Exactly => reading == guard.constant,
+        Relation::AtLeast => reading >= guard.constant,
+        Relation::Over => reading > guard.constant,
     }
 }
 
