@@ -61,6 +61,10 @@ enum Start {
     MidShift,
 }
 
+/// The passes of a plan before the first way, and before passes go on alone.
+const PLAIN: usize = 3;
+const TRIES: usize = 16;
+
 /// What a plan takes: passes forth and back, checks of demands, and how many of these a pass has; and whether a run exists.
 struct Cost {
     passes: usize,
@@ -151,12 +155,13 @@ impl Model {
         }
     }
 
-    /// Step i forth: the order demand, and its guards from below.
-    fn forth(&self, i: usize, times: &mut Times) {
-        times.check(i + 1, i, 0);
+    /// Step i forth: the order demand, and its guards from below; whether it is raised.
+    fn forth(&self, i: usize, times: &mut Times) -> bool {
+        let mut raised = times.check(i + 1, i, 0);
         for &(j, w) in &self.low[i % self.length] {
-            times.check(i + 1, self.last(i, j), w);
+            raised |= times.check(i + 1, self.last(i, j), w);
         }
+        raised
     }
 
     /// Step i back, its guards from above: the lower of `low` and what is raised, and whether something is.
@@ -206,16 +211,43 @@ impl Model {
         }
     }
 
-    /// A plan: three passes, thirteen with a way home before each, and then passes. The library looks for a cycle after each.
+    /// A way out: step by step back, and where a step raises an earlier one, forth at once from there, a round past the last one raised.
+    /// Cut after so many checks.
+    fn out(&self, times: &mut Times, most: usize) {
+        let end = times.checks + most;
+        let mut i = self.total;
+        while i > 0 && times.checks < end {
+            let lowest = self.back(i - 1, times, i).0;
+            let mut top = i - 1;
+            let mut at = lowest;
+            while at < self.total && at < top + self.length && lowest < i {
+                if self.forth(at, times) {
+                    top = top.max(at + 1);
+                }
+                at += 1;
+            }
+            i = top;
+        }
+    }
+
+    /// A plan: three passes, thirteen with a way home or out before each, in turn, one with both, and then passes. The library looks for
+    /// a cycle after each.
     fn plan(&self, start: Start) -> Cost {
         let n = self.vertices();
         let mut times = Times { time: vec![0; n], parent: vec![usize::MAX; n], checks: 0 };
         times.time[..=self.total].fill(4001 * n as i64);
         let mut marks = vec![0; n];
         let mut cost = Cost { passes: 0, checks: 0, pass: 0, run: true };
-        while cost.passes < 16 + n {
-            if (3..16).contains(&cost.passes) {
-                self.home(&mut times, 2 * cost.pass);
+        while cost.passes < TRIES + n {
+            let most = 26 * self.total;
+            match cost.passes {
+                TRIES => {
+                    self.home(&mut times, most);
+                    self.out(&mut times, most);
+                }
+                m if m < PLAIN || m > TRIES => {}
+                m if m % 2 == 1 => self.home(&mut times, most),
+                _ => self.out(&mut times, most),
             }
             let begun = times.checks;
             let raised = self.pass(start, &mut times);
@@ -265,16 +297,47 @@ impl Model {
         hit
     }
 
-    /// The checks for the last moments, from log-in and where a run exists: forth, then back and forth until nothing is lowered.
+    /// Last moments, step by step back, and where a step lowers an earlier moment, forth at once from there, a round past the last one
+    /// lowered; so many steps in all.
+    fn glide(&self, bounds: &mut Bounds, mut left: usize) {
+        let mut i = self.total;
+        while i > 0 && left > 0 {
+            let mut lowest = bounds.check(i, i - 1, 0, usize::MAX);
+            for &(j, w) in &self.low[(i - 1) % self.length] {
+                lowest = bounds.check(i, self.last(i - 1, j), -w, lowest);
+            }
+            if lowest >= i {
+                (i, left) = (i - 1, left - 1);
+                continue;
+            }
+            let (mut at, mut top) = (lowest, i - 1);
+            while at < self.total && at < top + self.length {
+                for &(j, w) in &self.up[at % self.length] {
+                    if bounds.check(self.last(at, j), at + 1, w, usize::MAX) < usize::MAX {
+                        top = top.max(at + 1);
+                    }
+                }
+                at += 1;
+            }
+            left = left.saturating_sub(top + self.length + 1 - lowest);
+            i = top;
+        }
+    }
+
+    /// The checks for the last moments, from log-in and where a run exists: forth, then back and forth until nothing is lowered, with a
+    /// glide before each turn but the first.
     fn latest(&self) -> usize {
         let mut bounds = Bounds { late: vec![0; self.vertices()], checks: 0 };
         bounds.late[1..=self.total].fill(NONE);
         self.ascend(&mut bounds, 0);
+        let mut most = 0;
         loop {
+            self.glide(&mut bounds, most);
             self.descend(&mut bounds, self.total, 0);
-            if !self.ascend(&mut bounds, 16 * self.total) {
+            if !self.ascend(&mut bounds, 4 * self.total) {
                 return bounds.checks;
             }
+            most = 16 * self.total;
         }
     }
 }

@@ -4,38 +4,16 @@ use mathlib.Core.Bool.{Bool, true, false}
 use mathlib.Core.List.{List, [], _∷_}
 use Prim.Native.Nat.{ℕ, suc, _+_, _*_, _-_, _%_, _≤_, _<_, _^_}
 use native.Mathlib.Omega.{arith}
-use native.Mathlib.Decide.{decLe, ℕ-discrete}
 use lib.ListN.{length}
 use Rattle.runs.specs.declared.Demand.{Demand}
 use Rattle.runs.specs.Demand.{plus}
-use Rattle.last_resets.specs.Distance.{lastOf, last-none, last-reached, last-before}
 use Rattle.sweeps.specs.Order.{sideOf, backOf}
 use Rattle.sweeps.specs.Number.{side-few}
 use Rattle.paths.specs.State.{State}
 use Rattle.paths.specs.Bounds.{SameSize}
 use Rattle.checks.specs.Checks.{Checkable, Checked}
-use Rattle.checks.specs.Some.{Onto, Able, onto-none, onto-checked, onto-append, onto-wider, onto-size, onto-able, able-checks, able-narrower}
-use Rattle.homing.specs.Steps.{stepsOf, some-back, some-order, some-lower, some-upper}
-
--- s′ is s after at most m checks of demands of `all`, in any order, from the stamp q to the stamp r.
-pub record Went (all : List Demand) (m q : ℕ) (s s′ : State) (r : ℕ) : Type 0 where
-  pub onto : Onto all q s s′ r
-  pub few : r ≤ q + m
-
-pub went-none : (all : List Demand) (m q : ℕ) (s : State) → Went all m q s s q
-went-none all m q s = record { onto = onto-none all q s; few = omega arith }
-
--- a last reset is one of the moments
-last-inside : (d K i j : ℕ) → i < K → lastOf d K i j ≤ K + j
-last-inside d K i j l = go (ℕ-discrete d 0) (decLe d i)
-  where
-    go : Dec (d ≡ 0) → Dec (d ≤ i) → lastOf d K i j ≤ K + j
-    go (yes e) h = omega (arith, last-none d K i j e)
-    go (no e) (yes h) = omega (arith, last-reached d K i j e h)
-    go (no e) (no h) = omega (arith, last-before d K i j (omega arith))
-
-pub last-within : (z d K i j : ℕ) → z ≡ lastOf d K i j → i < K → z ≤ K + j
-last-within z d K i j e l = omega (arith, last-inside d K i j l)
+use Rattle.checks.specs.Some.{Some, Onto, Able, onto-none, onto-checked, onto-append, onto-wider, onto-size, onto-able, able-checks, able-narrower}
+use Rattle.ways.specs.Steps.{stepsOf, some-forth, some-back, some-order, some-lower, some-upper, Went}
 
 -- ---- the way back from a step: of the steps before `from`, those from i on are checked
 pub record Backward (up far : List ℕ) (L n K from q₀ : ℕ) (s₀ : State) (i s q : ℕ) (x : State) : Type 0 where
@@ -61,7 +39,7 @@ module _ (up far : List ℕ) (L n K from q₀ : ℕ) (s₀ : State) where
       backward-able f a =
           able-checks _ q x (K + n + 1) (onto-able _ q₀ s₀ x q (b .onto) (K + n + 1) a) (omega (arith, b .few, f))
           (sideOf true up far K t k 1 n)
-          (some-upper up up far L n K k t (omega (arith, b .inside)) e)
+          (some-upper up far L n K k t (omega (arith, b .inside)) e)
           (omega (arith, side-few true up far K t k 1 n))
 
       pub backward-next : (h g : Bool) (x′ : State) (r : ℕ) → Checked (sideOf true up far K t k 1 n) h q x x′ g r
@@ -70,7 +48,7 @@ module _ (up far : List ℕ) (L n K from q₀ : ℕ) (s₀ : State) where
           record {
             onto =
                 onto-append _ q₀ s₀ x q (b .onto) x′ r
-                (onto-checked _ q x (sideOf true up far K t k 1 n) (some-upper up up far L n K k t (omega (arith, b .inside)) e) h g x′ r c);
+                (onto-checked _ q x (sideOf true up far K t k 1 n) (some-upper up far L n K k t (omega (arith, b .inside)) e) h g x′ r c);
             step = e;
             inside = omega (arith, b .inside);
             few = omega (arith, b .few, c .stamp, side-few true up far K t k 1 n);
@@ -82,25 +60,31 @@ module _ (low up far : List ℕ) (L n K i s q : ℕ) (l : i < K) (e : s ≡ i % 
   abbrev all : List Demand
   all = stepsOf low up far L n K
 
+  order : Some all (d ∷ [])
+  order x m = some-forth low up far L n K x (some-order low far L n K i s l e d f x m)
+
+  lower : Some all (sideOf false low far K s i 1 n)
+  lower x m = some-forth low up far L n K x (some-lower low far L n K i s l e x m)
+
   pub order-able : Checkable (d ∷ []) x q
-  order-able = able-checks all q x (K + n + 1) a (omega (arith, few)) (d ∷ []) (some-order low up far L n K i s l e d f) (omega arith)
+  order-able = able-checks all q x (K + n + 1) a (omega (arith, few)) (d ∷ []) order (omega arith)
 
   module _ (x₁ : State) (h₁ : Bool) (q₁ : ℕ) (c₁ : Checked (d ∷ []) false q x x₁ h₁ q₁) where
     ordered : Onto all q x x₁ q₁
-    ordered = onto-checked all q x (d ∷ []) (some-order low up far L n K i s l e d f) false h₁ x₁ q₁ c₁
+    ordered = onto-checked all q x (d ∷ []) order false h₁ x₁ q₁ c₁
 
     pub lower-able : Checkable (sideOf false low far K s i 1 n) x₁ q₁
     lower-able =
         able-checks all q₁ x₁ (K + n + 1) (onto-able all q x x₁ q₁ ordered (K + n + 1) a) (omega (arith, few, c₁ .stamp))
         (sideOf false low far K s i 1 n)
-        (some-lower low up far L n K i s l e)
+        lower
         (omega (arith, side-few false low far K s i 1 n))
 
     module _ (x₂ : State) (h₂ : Bool) (q₂ : ℕ) (c₂ : Checked (sideOf false low far K s i 1 n) h₁ q₁ x₁ x₂ h₂ q₂) where
       lowered : Onto all q x x₂ q₂
       lowered =
           onto-append all q x x₁ q₁ ordered x₂ q₂
-          (onto-checked all q₁ x₁ (sideOf false low far K s i 1 n) (some-lower low up far L n K i s l e) h₁ h₂ x₂ q₂ c₂)
+          (onto-checked all q₁ x₁ (sideOf false low far K s i 1 n) lower h₁ h₂ x₂ q₂ c₂)
 
       pub return-few : q₂ ≤ q + 7
       return-few = omega (arith, c₁ .stamp, c₂ .stamp, side-few false low far K s i 1 n)

@@ -1,4 +1,2 @@
--- the demands of all steps
-pub mod Steps
--- checks of them step by step
+-- checks of the demands of all steps, step by step
 pub mod Homing

@@ -5,62 +5,21 @@ use checks::check;
 use checks::check_side;
 use constraints::following;
 use constraints::not_after;
-use last_resets::last_reset;
+use last_resets::lowest;
 use last_resets::preceding;
 use last_resets::step_of;
 ghost use mathlib.Core.Path.{_≡_};
 ghost use Prim.Native.Nat.{_+_, _*_, _%_, _≤_, _<_, _^_};
-ghost use lib.ListN.{length};
 ghost use Rattle.sweeps.specs.Order.{backOf};
 ghost use Rattle.paths.specs.State.{state};
 ghost use Rattle.checks.specs.Some.{Able};
 ghost use Rattle.ways.specs.Forth.{Going};
-ghost use Rattle.homing.specs.Steps.{stepsOf};
-ghost use Rattle.homing.specs.Homing.{Went};
+ghost use Rattle.ways.specs.Steps.{stepsOf, Went};
 
 // How far a way has come: the step to go on with, and the stamp of the next check.
 struct Way {
     next: usize,
     stamp: u64,
-}
-
-// The lower of two moments, where the stamp of the second is not below `since`; else the first.
-fn lower(low: usize, z: usize, stamp: u64, since: u64) -> usize
-    ensures { λ r. ⌜ r ≤ low ⌝ }
-{
-    if stamp < since {
-        return low;
-    }
-    if z < low { z } else { low }
-}
-
-// The lowest of a moment and the last resets at step i that were raised by a check with the stamp `since` or a later one. It is step s
-// of its round.
-fn lowest(
-    raised: bool,
-    far: &[usize],
-    clocks: usize,
-    total: usize,
-    s: usize,
-    i: usize,
-    stamp: &[u64],
-    since: u64,
-    low: usize,
-) -> usize
-    requires { ⌜ (length (now far) ≡ 112) × (clocks ≤ 6) × (total ≤ 1024) × (s < 16) × (i < total) × (total + clocks + 1 ≤ length (now stamp)) ⌝ }
-    ensures { λ r. ⌜ r ≤ low ⌝ }
-{
-    if !raised {
-        return low;
-    }
-    let mut found = low;
-    let mut j: usize = 1;
-    while j <= clocks {
-        let z = last_reset(far[7 * s + j], total, i, j);
-        found = lower(found, z, stamp[z], since);
-        j += 1;
-    }
-    found
 }
 
 // The checks back over the steps before `from`, from the last of them on: the tightest guards from above of each. They stop below the

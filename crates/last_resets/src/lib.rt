@@ -78,3 +78,53 @@ pub fn step_of(s: usize, i: usize, next: usize, steps: usize) -> usize
     }
     next % steps
 }
+
+// The lower of two moments, where the stamp of the second is not below `since`; else the first.
+fn lower(low: usize, z: usize, stamp: u64, since: u64) -> usize
+    ensures { λ r. ⌜ r ≤ low ⌝ }
+{
+    if stamp < since {
+        return low;
+    }
+    if z < low { z } else { low }
+}
+
+// The lowest of a moment and the last resets at step i whose stamp is not below `since`, where something was raised. It is step s of its
+// round.
+pub fn lowest(
+    raised: bool,
+    far: &[usize],
+    clocks: usize,
+    total: usize,
+    s: usize,
+    i: usize,
+    stamp: &[u64],
+    since: u64,
+    low: usize,
+) -> usize
+    requires { ⌜ (length (now far) ≡ 112) × (clocks ≤ 6) × (total ≤ 1024) × (s < 16) × (i < total) × (total + clocks + 1 ≤ length (now stamp)) ⌝ }
+    ensures { λ r. ⌜ r ≤ low ⌝ }
+{
+    if !raised {
+        return low;
+    }
+    let mut found = low;
+    let mut j: usize = 1;
+    while j <= clocks {
+        let z = last_reset(far[7 * s + j], total, i, j);
+        found = lower(found, z, stamp[z], since);
+        j += 1;
+    }
+    found
+}
+
+// Not before moment `top`, and step i's moment where that was raised or lowered.
+pub fn later(top: usize, i: usize, hit: bool, total: usize) -> usize
+    requires { ⌜ (i < total) × (top ≤ total) ⌝ }
+    ensures { λ r. ⌜ (top ≤ r) × (r ≤ total) ⌝ }
+{
+    if !hit {
+        return top;
+    }
+    if top <= i { i + 1 } else { top }
+}

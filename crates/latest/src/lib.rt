@@ -3,6 +3,7 @@ use bounding::bound;
 use bounding::bound_side;
 use constraints::following;
 use constraints::not_after;
+use last_resets::later;
 use last_resets::preceding;
 use last_resets::step_of;
 ghost use mathlib.Core.Path.{_≡_};
@@ -153,17 +154,6 @@ fn ascend(
     way.hit
 }
 
-// Not before moment `top`, and step i's moment where a check has lowered that.
-fn later(top: usize, i: usize, lowest: usize, total: usize) -> usize
-    requires { ⌜ (i < total) × (top ≤ total) ⌝ }
-    ensures { λ r. ⌜ (top ≤ r) × (r ≤ total) ⌝ }
-{
-    if NEVER <= lowest {
-        return top;
-    }
-    if top <= i { i + 1 } else { top }
-}
-
 // The checks forth over the steps from `from` on: the tightest guards from above of each. They stop a round after the last moment that
 // they lower or that, as the caller says with `last`, was lowered before them. The answer is such a moment. Step `from` is step `first`
 // of its round.
@@ -190,7 +180,7 @@ fn rise(
             return top;
         }
         let lowest = bound_side(true, up, far, clocks, total, s, i, late, NEVER);
-        top = later(top, i, lowest, total);
+        top = later(top, i, lowest < NEVER, total);
         s = following(s, steps);
         i += 1;
     }

@@ -1,4 +1,4 @@
--- Pass after pass, with ways home between them, until one has raised nothing on the way back or there is a cycle of parents.
+-- Pass after pass, with ways between them, until one has raised nothing on the way back or there is a cycle of parents.
 use mathlib.Core.Path.{_≡_, refl, sym, ap, subst, _∙_}
 use mathlib.Core.Logic.{⊎-elim}
 use mathlib.Core.Bool.{Bool, true, false}
@@ -22,8 +22,7 @@ use Rattle.paths.specs.Outcome.{outcome-must}
 use Rattle.paths.specs.Search.{Searchable, Search, found-some}
 use Rattle.checks.specs.Checks.{unit, length-edges, slight-fits}
 use Rattle.checks.specs.Some.{Some, Onto, Able, onto-wider, onto-size, able-narrower}
-use Rattle.homing.specs.Steps.{stepsOf}
-use Rattle.homing.specs.Homing.{Went}
+use Rattle.ways.specs.Steps.{stepsOf, Went}
 use Rattle.relaxing.specs.Rows.{Rows, sweep, moments, constraintsOf, Sound, sound-moments}
 use Rattle.relaxing.specs.Pass.{Passable, Swept}
 use Rattle.relaxing.specs.Passes.{Begins, Ready, Ended}
@@ -31,22 +30,22 @@ use Rattle.relaxing.specs.Reached.{Reached, reached-first, reached-more,
 use Rattle.relaxing.specs.Reached.{reached-rises, reached-least, reached-negative, reached-cleared, onto-swept}
 
 -- ---- what comes before a pass
--- A way home by demands of `all`, after which the stamps of N moments are taken away.
+-- Ways by demands of `all`, after which the stamps of N moments are taken away.
 pub record Cleared (N : ℕ) (all : List Demand) (q : ℕ) (s s′ : State) : Type 0 where
   pub home : State
   pub next : ℕ
-  pub went : Went all (2 ^ 16) q s home next
+  pub went : Went all (2 ^ 17) q s home next
   pub stamp : List ℕ
   pub filled : stamp ≡ filled 0 N (home .stamp)
   pub after : s′ ≡ state (home .time) (home .parent) stamp
 
 pub home-cleared : (N : ℕ) (all : List Demand) (q : ℕ) (s : State) (time parent stamp stamp′ : List ℕ) (next : ℕ)
-    → Went all (2 ^ 16) q s (state time parent stamp) next → stamp′ ≡ filled 0 N stamp → Cleared N all q s (state time parent stamp′)
+    → Went all (2 ^ 17) q s (state time parent stamp) next → stamp′ ≡ filled 0 N stamp → Cleared N all q s (state time parent stamp′)
 home-cleared N all q s time parent stamp stamp′ next w e =
     record { home = state time parent stamp; next = next; went = w; stamp = stamp′; filled = e; after = refl }
 
 -- When m passes are made: s is the state before and s′ after, q the stamp of the next check before and r after. The first sixteen passes
--- have at most a way home before them, the seventeenth a way home after which no moment is stamped, and the others nothing.
+-- have at most one way before them, the seventeenth two, after which no moment is stamped, and the others none.
 pub record Approached (N : ℕ) (all : List Demand) (m q : ℕ) (s s′ : State) (r : ℕ) : Type 0 where
   pub near : m < 16 → Went all (2 ^ 16) q s s′ r
   pub clear : m ≡ 16 → Cleared N all q s s′ × (r ≡ 1)
@@ -159,9 +158,9 @@ module _ (R : Rows) (s₀ : State) (z : Sound R) (b : Begins (moments R) (R .tot
       abbrev near : ℕ
       near = most m + 2 ^ 16
 
-      -- the way home
-      homeward : (x : State) (n : ℕ) → Went steps (2 ^ 16) q s x n → Reached R s₀ (p .since) x n
-      homeward x n w =
+      -- after a way
+      onward : (x : State) (n k : ℕ) → Went steps k q s x n → Reached R s₀ (p .since) x n
+      onward x n k w =
           reached-more R z s₀ (b .room) (p .since) s q (p .reached) x n
           (onto-wider steps q s x n (w .onto) (sweep R) (steps-swept R))
 
@@ -172,7 +171,7 @@ module _ (R : Rows) (s₀ : State) (z : Sound R) (b : Begins (moments R) (R .tot
           (λ v w. omega (arith, reached-under R z s₀ (b .room) (p .since) (k .home) (k .next) t (2 ^ 60) (p .early (omega arith)) v w, k .went .few, passing-low)))
         where
           t : Reached R s₀ (p .since) (k .home) (k .next)
-          t = homeward (k .home) (k .next) (k .went)
+          t = onward (k .home) (k .next) (2 ^ 17) (k .went)
 
       pub approached-passing : Passing R s₀ 16 m near r s′
       approached-passing = go (decLt m 16) (ℕ-discrete m 16)
@@ -181,7 +180,7 @@ module _ (R : Rows) (s₀ : State) (z : Sound R) (b : Begins (moments R) (R .tot
           go (yes l) d =
               record {
                 since = p .since;
-                reached = homeward s′ r (a .near l);
+                reached = onward s′ r (2 ^ 16) (a .near l);
                 few = omega (arith, a .near l .few, p .few);
                 early = λ h. p .early (omega arith);
                 turned = λ h. absurd (omega arith);

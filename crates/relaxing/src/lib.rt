@@ -1,7 +1,8 @@
-// The difference constraints of k rounds, checked pass after pass over lent times, with ways home between the passes where a few are not
-// enough.
+// The difference constraints of k rounds, checked pass after pass over lent times, with ways home and out between the passes where a few
+// are not enough.
 use checks::Sweep;
 use homing::home;
+use leaving::out;
 use paths::fill;
 use paths::find_cycle;
 use runs::Start;
@@ -14,13 +15,13 @@ ghost use lib.ListN.{length};
 ghost use Rattle.paths.specs.State.{state};
 ghost use Rattle.checks.specs.Some.{Able};
 ghost use Rattle.ways.specs.Forth.{Going};
-ghost use Rattle.homing.specs.Steps.{stepsOf};
+ghost use Rattle.ways.specs.Steps.{stepsOf};
 ghost use Rattle.relaxing.specs.Rows.{rows, moments, constraintsOf};
 ghost use Rattle.relaxing.specs.Pass.{Passable, Swept};
 ghost use Rattle.relaxing.specs.Passes.{Ready, Ended};
 ghost use Rattle.relaxing.specs.Ending.{Approached};
 
-// How many passes are made before the first way home, and how many before passes alone go on.
+// How many passes are made before the first way, and how many before passes go on alone.
 const PLAIN: usize = 3;
 
 const TRIES: usize = 16;
@@ -59,8 +60,8 @@ fn pass(
     check_starts(total, clocks, time, parent, stamp, come)
 }
 
-// What comes before a pass, when m are made: nothing before the first ones, then a way home. Before the first of those that go on alone
-// the stamps are taken away, after a last way home. The answer is the stamp of the next check.
+// What comes before a pass, when m are made: nothing before the first ones, then a way home or a way out, in turn. Before the first of
+// those that go on alone the stamps are taken away, after both. The answer is the stamp of the next check.
 fn approach(
     m: usize,
     low: &[u64],
@@ -83,15 +84,30 @@ fn approach(
     if m < PLAIN {
         return q;
     }
-    if m < TRIES {
-        return home(low, up, far, steps, clocks, total, time, parent, stamp, q);
+    if TRIES < m {
+        return q;
     }
     if m == TRIES {
-        let last = home(low, up, far, steps, clocks, total, time, parent, stamp, q);
+        let near = home(low, up, far, steps, clocks, total, time, parent, stamp, q);
+        let last = out(
+            low,
+            up,
+            far,
+            steps,
+            clocks,
+            total,
+            time,
+            parent,
+            stamp,
+            near,
+        );
         fill(stamp, total + clocks + 1, 0);
         return 1;
     }
-    q
+    if m % 2 == 0 {
+        return out(low, up, far, steps, clocks, total, time, parent, stamp, q);
+    }
+    home(low, up, far, steps, clocks, total, time, parent, stamp, q)
 }
 
 // Passes from the start values, until one raises nothing on the way back, or there is a cycle of parents: a vertex on it, or else the

@@ -3,3 +3,5 @@ pub mod Partners
 pub mod Forth
 pub mod Back
 pub mod Starting
+-- the demands of the steps in any order
+pub mod Steps
