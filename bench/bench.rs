@@ -216,9 +216,9 @@ fn descending() -> Vec<u8> {
     filled(steps, 2)
 }
 
-/// One that bench/search.rs found for passes forth and back alone, reduced to what matters. The second steps are 3,994 ticks after the third before them and
-/// soon after the first, and the fourth steps are soon after the third and late after the first before them: each pass forth and back
-/// moves one half round.
+/// One that bench/search.rs found for passes forth and back alone, reduced to what matters. The second steps are 3,994 ticks after the
+/// third before them and soon after the first, and the fourth steps are soon after the third and late after the first before them: each
+/// pass forth and back moves one half round.
 fn staircase() -> Vec<u8> {
     let steps = vec![
         reset(1),
@@ -229,9 +229,9 @@ fn staircase() -> Vec<u8> {
     filled(steps, 2)
 }
 
-/// The slowest plan that bench/search.rs found for passes and ways home, reduced to what matters. The fifth steps are over 3,990 ticks
-/// apart, so that the second of a round is late for the third of the round before, that for its fourth, and that for its first: a way
-/// back from the last round to the first, with steps forth on it. A way home goes it anew from each round.
+/// One that bench/search.rs found for passes and ways home, reduced to what matters. The fifth steps are over 3,990 ticks apart, so that
+/// the second of a round is late for the third of the round before, that for its fourth, and that for its first: a way back from the last
+/// round to the first, with steps forth on it. A way home goes it anew from each round, and a way out goes it once.
 fn receding() -> Vec<u8> {
     let steps = vec![
         reset(3),
@@ -243,9 +243,9 @@ fn receding() -> Vec<u8> {
     filled(steps, 3)
 }
 
-/// The slowest windows that a climb from zigzag found, reduced to what matters; the plan is quick. Every fifth step is within 3,998
-/// ticks, so that the last round bounds the one before it from above, and so on to the first: from the fifth step back to the third
-/// and the first, forth to the second, back to the fourth of the round before, and forth to its fifth.
+/// One whose windows were slow for turns forth and back, reduced to what matters; the plan is quick. Every fifth step is within 3,998
+/// ticks, so that the last round bounds the one before it from above, and so on to the first: from the fifth step back to the third and
+/// the first, forth to the second, back to the fourth of the round before, and forth to its fifth.
 fn recoiling() -> Vec<u8> {
     let steps = vec![
         reset(1),

@@ -217,6 +217,7 @@ impl Model {
         let end = times.checks + most;
         let mut i = self.total;
         while i > 0 && times.checks < end {
+            times.check(i, i - 1, 0);
             let lowest = self.back(i - 1, times, i).0;
             let mut top = i - 1;
             let mut at = lowest;

@@ -611,13 +611,14 @@ const UNREACHED: i64 = i64::MIN / 2;
 /// The parent of a moment that was not raised.
 const NO_PARENT: u16 = u16::MAX;
 
-/// How many passes of a plan go before the first way home, and before the last; and the most checks of such a way, by those of a pass.
+/// How many passes of a plan go before the first way home or out, and before the last; and the most checks of such a way, by those of a
+/// pass.
 const PLAIN: usize = 3;
 const TRIES: usize = 16;
-const HOME: usize = 2;
+const WAY: usize = 2;
 
-/// The most checks of the way home to the latest times, by those of a pass.
-const LATE: usize = 16;
+/// The most checks of ways home and out to the latest times, by those of a pass.
+const LATE: usize = 4;
 
 /// Moments, each with its time and with its parent, the moment after which it was raised.
 #[derive(Default)]
@@ -684,7 +685,7 @@ struct Walk<'a> {
 impl Walk<'_> {
     /// Raises the moments until all demands are met; or, where they contradict each other, until the parents close a cycle: a moment
     /// on it. Passes go forth and back (Yen's order). Each way leaves its own demands met, so that one that raises nothing is the
-    /// last. After some passes a way home goes before each, and after some more plain passes go on.
+    /// last. After some passes a way home or out goes before each, in turn, and after some more plain passes go on.
     fn settle(&mut self) -> Option<u16> {
         self.go_forth();
         let mut passes = 0;
@@ -693,10 +694,21 @@ impl Walk<'_> {
             if !self.go_back() {
                 return None;
             }
-            if (PLAIN..TRIES).contains(&passes) {
-                self.go_home(HOME);
-                self.go_forth();
-            } else if !self.go_forth() {
+            let raised = match passes {
+                PLAIN..TRIES if passes % 2 == 1 => {
+                    self.go_home(WAY);
+                    self.go_forth();
+                    true
+                }
+                PLAIN..TRIES => {
+                    self.go_forth();
+                    self.go_out(WAY);
+                    self.go_forth();
+                    true
+                }
+                _ => self.go_forth(),
+            };
+            if !raised {
                 return None;
             }
             let found = self.moments.on_cycle();
@@ -763,6 +775,33 @@ impl Walk<'_> {
         i > total
     }
 
+    /// A way out, after one forth: back step by step, and from each earlier moment that is raised forth at once, a round past the last
+    /// moment that is raised with it, and back again from that. Cut after the checks of so many passes.
+    fn go_out(&mut self, passes: usize) {
+        let (steps, total) = (self.demands.steps, self.demands.total);
+        let pass = total / steps * (self.forth.demands.len() + self.back.demands.len());
+        let mut checks = 0;
+        let mut i = total;
+        while i > 0 && checks < passes * pass {
+            let step = (i - 1) % steps;
+            checks += self.back.of(step).len();
+            let lowest = self.back(i, step);
+            let mut top = i - 1;
+            if lowest < i {
+                let mut at = lowest + 1;
+                while at <= total.min(top + steps) {
+                    let step = (at - 1) % steps;
+                    checks += self.forth.of(step).len();
+                    if self.forth(at, step) {
+                        top = top.max(at);
+                    }
+                    at += 1;
+                }
+            }
+            i = top;
+        }
+    }
+
     /// Raises moment i, of this step of a round, after earlier ones; whether it was raised.
     fn forth(&mut self, i: usize, step: usize) -> bool {
         let mut raised = false;
@@ -819,7 +858,8 @@ impl Space {
     }
 
     /// The latest times from log-in, where a run exists, with the sign turned round: so that the same demands raise the earlier moment
-    /// where they raised the later one, and the later where they raised the earlier. A pass, a way home, and where that is cut passes.
+    /// where they raised the later one, and the later where they raised the earlier. A pass and a way home, and where that is cut passes with
+    /// ways out between.
     fn latest(&mut self) {
         self.last.set(&self.demands, UNREACHED, 0);
         self.last.time[0] = 0;
@@ -832,7 +872,13 @@ impl Space {
         };
         walk.go_forth();
         if walk.go_back() && !walk.go_home(LATE) {
-            while walk.go_forth() && walk.go_back() {}
+            while walk.go_forth() {
+                walk.go_out(4 * LATE);
+                walk.go_forth();
+                if !walk.go_back() {
+                    return;
+                }
+            }
         }
     }
 
