@@ -211,9 +211,12 @@ impl Model {
         }
     }
 
-    /// A way out: step by step back, and where a step raises an earlier one, forth at once from there, a round past the last one raised.
-    /// Cut after so many checks.
+    /// A way out: once forth, then step by step back, and where a step raises an earlier one, forth at once from there, a round past the
+    /// last one raised. Cut after so many checks.
     fn out(&self, times: &mut Times, most: usize) {
+        for i in 0..self.total {
+            self.forth(i, times);
+        }
         let end = times.checks + most;
         let mut i = self.total;
         while i > 0 && times.checks < end {

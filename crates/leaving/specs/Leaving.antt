@@ -119,27 +119,36 @@ module _ (low up far : List ℕ) (L n K i s q : ℕ) (l : i < K) (e : s ≡ i % 
         omega (arith, w .onto .stamp, c₁ .stamp, c₂ .stamp),
       )
 
--- ---- the way over all steps: at moment i
+-- ---- the way over all steps, after one forth: at moment i
 pub record Outward (low up far : List ℕ) (L n K q₀ : ℕ) (s₀ : State) (i q : ℕ) (x : State) : Type 0 where
   pub onto : Onto (stepsOf low up far L n K) q₀ s₀ x q
   pub inside : i ≤ K
   pub few : q ≤ q₀ + 26 * K + 7175
 
-module _ (low up far : List ℕ) (L n K q₀ : ℕ) (s₀ : State) where
-  pub outward-first : Outward low up far L n K q₀ s₀ K q₀ s₀
-  outward-first = record { onto = onto-none _ q₀ s₀; inside = omega arith; few = omega arith }
+module _ (low up far : List ℕ) (L n K q : ℕ) (s : State) where
+  pub first-able : Able (K + n + 1) (stepsOf low up far L n K) s q → Able (K + n + 1) (forthOf low far L n K 0 K) s q
+  first-able a = able-narrower (stepsOf low up far L n K) q s (K + n + 1) a (forthOf low far L n K 0 K) (some-forth low up far L n K)
 
-  module _ (i q : ℕ) (x : State) (b : Outward low up far L n K q₀ s₀ i q x) where
-    pub outward-went : K ≤ 1024 → Went (stepsOf low up far L n K) (2 ^ 16) q₀ s₀ x q
-    outward-went l = record { onto = b .onto; few = omega (arith, b .few) }
+  -- from the way forth on
+  module _ (s₀ : State) (q₀ : ℕ) (w : Went (forthOf low far L n K 0 K) (7 * K) q s s₀ q₀) where
+    gone : Onto (stepsOf low up far L n K) q s s₀ q₀
+    gone = onto-wider _ q s s₀ q₀ (w .onto) (stepsOf low up far L n K) (some-forth low up far L n K)
 
-    pub outward-size : SameSize s₀ x
-    outward-size = onto-size _ q₀ s₀ x q (b .onto)
+    pub outward-first : Outward low up far L n K q₀ s₀ K q₀ s₀
+    outward-first = record { onto = onto-none _ q₀ s₀; inside = omega arith; few = omega arith }
 
-    pub outward-able : Able (K + n + 1) (stepsOf low up far L n K) s₀ q₀ → Able (K + n + 1) (stepsOf low up far L n K) x q
-    outward-able a = onto-able _ q₀ s₀ x q (b .onto) (K + n + 1) a
+    module _ (i r : ℕ) (x : State) (b : Outward low up far L n K q₀ s₀ i r x) where
+      pub outward-went : K ≤ 1024 → Went (stepsOf low up far L n K) (2 ^ 16) q s x r
+      outward-went l =
+          record { onto = onto-append _ q s s₀ q₀ gone x r (b .onto); few = omega (arith, b .few, w .few) }
 
-    pub outward-next : q < q₀ + 26 * K → (k r : ℕ) (x′ : State) → Went (stepsOf low up far L n K) 7175 q x x′ r → k ≤ K
-        → Outward low up far L n K q₀ s₀ k r x′
-    outward-next l k r x′ w e =
-        record { onto = onto-append _ q₀ s₀ x q (b .onto) x′ r (w .onto); inside = e; few = omega (arith, w .few) }
+      pub outward-size : SameSize s x
+      outward-size = onto-size _ q s x r (onto-append _ q s s₀ q₀ gone x r (b .onto))
+
+      pub outward-able : Able (K + n + 1) (stepsOf low up far L n K) s q → Able (K + n + 1) (stepsOf low up far L n K) x r
+      outward-able a = onto-able _ q s x r (onto-append _ q s s₀ q₀ gone x r (b .onto)) (K + n + 1) a
+
+      pub outward-next : r < q₀ + 26 * K → (k t : ℕ) (x′ : State) → Went (stepsOf low up far L n K) 7175 r x x′ t → k ≤ K
+          → Outward low up far L n K q₀ s₀ k t x′
+      outward-next l k t x′ v e =
+          record { onto = onto-append _ q₀ s₀ x r (b .onto) x′ t (v .onto); inside = e; few = omega (arith, v .few) }

@@ -1,4 +1,4 @@
-// A way out over the steps of k rounds: back step by step, and wherever a step's guards from above raise an earlier step, forth at once
+// A way out over the steps of k rounds: once forth, then back step by step, and wherever a step's guards from above raise an earlier step, forth at once
 // from there, and back again from the last step raised.
 use checks::Sweep;
 use checks::check;
@@ -165,8 +165,8 @@ fn out_step(
     )
 }
 
-// A way out over all steps. Where there are steps that it raises again and again it ends early, so that a pass is made before the next
-// way. The answer is the stamp of the next check.
+// A way out over all steps, after one forth over them. Where there are steps that it raises again and again it ends early, so that a
+// pass is made before the next way. The answer is the stamp of the next check.
 pub fn out(
     low: &[u64],
     up: &[u64],
@@ -185,9 +185,23 @@ pub fn out(
         (state (now (time .entry)) (now (parent .entry)) (now (stamp .entry)))
         (state (now (time .exit)) (now (parent .exit)) (now (stamp .exit))) r ⌝ }
 {
-    let last = q + CHECKS * total as u64;
+    let gone = forth_from(
+        low,
+        far,
+        steps,
+        clocks,
+        total,
+        0,
+        0,
+        total,
+        time,
+        parent,
+        stamp,
+        q,
+    );
+    let mut next = gone.stamp;
+    let last = next + CHECKS * total as u64;
     let mut i = total;
-    let mut next = q;
     while 0 < i {
         if last <= next {
             return next;
