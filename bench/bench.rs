@@ -243,6 +243,28 @@ fn receding() -> Vec<u8> {
     filled(steps, 3)
 }
 
+/// The slowest plan that bench/search.rs found for passes and ways home and out, reduced to what matters. The last steps are over 3,982
+/// ticks after the first before them, and from each of them guards from above lead back over three clocks in turn, some of them forth
+/// again on the way, from the last round to the first: ways home and out both are cut or gain little.
+fn braided() -> Vec<u8> {
+    let steps = vec![
+        [guard(3, OVER, 139), reset(4)].concat(),
+        [guard(1, UNDER, 3995), reset(2)].concat(),
+        [guard(1, AT_MOST, 3993), reset(3)].concat(),
+        reset(1),
+        [guard(2, UNDER, 22), reset(3)].concat(),
+        [guard(3, UNDER, 11), reset(3)].concat(),
+        [guard(3, UNDER, 19), reset(3)].concat(),
+        [reset(1), reset(2)].concat(),
+        guard(3, AT_MOST, 19),
+        reset(1),
+        guard(2, EXACTLY, 5),
+        reset(3),
+        [guard(3, UNDER, 9), guard(4, OVER, 3982)].concat(),
+    ];
+    filled(steps, 4)
+}
+
 /// One whose windows were slow for turns forth and back, reduced to what matters; the plan is quick. Every fifth step is within 3,998
 /// ticks, so that the last round bounds the one before it from above, and so on to the first: from the fifth step back to the third and
 /// the first, forth to the second, back to the fourth of the round before, and forth to its fifth.
@@ -556,7 +578,7 @@ fn bench_panels() {
         " {:>7} {:>11} {:>7} {:>11}",
         "by plan", "proved ns", "by plan", "proved ns"
     );
-    let tables: [(&str, &[u8], u64); 20] = [
+    let tables: [(&str, &[u8], u64); 21] = [
         ("S10 for 2", S10, 2),
         ("5 steps for 10", &line(), 10),
         ("5 steps for 204", &line(), 204),
@@ -597,6 +619,7 @@ fn bench_panels() {
         ("4 steps, 64 guards, for 256: staircase", &staircase(), 256),
         ("5 steps, 64 guards, for 204: receding", &receding(), 204),
         ("5 steps, 64 guards, for 204: recoiling", &recoiling(), 204),
+        ("13 steps, 64 guards, for 78: braided", &braided(), 78),
     ];
     let ratios = tables.map(|(name, bytes, k)| bench_panel(name, bytes, k));
     let most = ratios.into_iter().fold(0.0, f64::max);
@@ -883,6 +906,7 @@ fn main() {
     bench_plan("4 steps, 64 guards, for 256: staircase", &staircase(), 256);
     bench_plan("5 steps, 64 guards, for 204: receding", &receding(), 204);
     bench_plan("5 steps, 64 guards, for 204: recoiling", &recoiling(), 204);
+    bench_plan("13 steps, 64 guards, for 78: braided", &braided(), 78);
     bench_demands("S10 for 2", S10, 2);
     bench_demands("the largest row", &crowded(EXACTLY, 3), 1024);
     println!();

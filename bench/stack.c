@@ -123,6 +123,23 @@ static void counted(void) {
     put(2, (uint8_t[]){4, 5});
 }
 
+/* Five steps, whose plan takes a way home and a way out. */
+static void receding(void) {
+    length = 0;
+    put(2, (uint8_t[]){1, 3});
+    reset(3);
+    put(1, (uint8_t[]){4});
+    guard(2, 0, 3979);
+    put(1, (uint8_t[]){4});
+    reset(2);
+    put(1, (uint8_t[]){4});
+    guard(3, 1, 3);
+    put(1, (uint8_t[]){4});
+    guard(1, 4, 3990);
+    reset(1);
+    put(2, (uint8_t[]){4, 5});
+}
+
 static int failed;
 
 static void line(const char *name, uint64_t k) {
@@ -166,6 +183,8 @@ int main(void) {
     line("1 step, 64 exact guards, six clocks", 1024);
     counted();
     line("4,000 and 4,001 rounds", 1024);
+    receding();
+    line("5 steps, ways home and out", 204);
     memset(table, 3, sizeof table);
     length = 4096;
     line("refused", 1);
