@@ -8,6 +8,7 @@ use constraints::not_after;
 use last_resets::lowest;
 use last_resets::preceding;
 use last_resets::step_of;
+use ways::CHECKS;
 ghost use mathlib.Core.Path.{_≡_};
 ghost use Prim.Native.Nat.{_+_, _*_, _%_, _≤_, _<_, _^_};
 ghost use Rattle.sweeps.specs.Order.{backOf};
@@ -136,9 +137,6 @@ fn home_step(
         lowered.stamp,
     )
 }
-
-// How many checks a way has for each step, if it is not to end early: twice as many as a pass can have.
-const CHECKS: u64 = 26;
 
 // A way home over all steps. Where there are steps that it raises again and again it ends early, so that a pass is made before the next
 // way. The answer is the stamp of the next check.

@@ -6,7 +6,7 @@ use Prim.Native.Nat.{ℕ, _+_, _*_, _%_, _≤_, _<_, _^_}
 use native.Mathlib.Omega.{arith}
 use Rattle.runs.specs.declared.Demand.{Demand}
 use Rattle.runs.specs.Demand.{plus}
-use Rattle.sweeps.specs.Order.{sideOf, forthOf, backOf}
+use Rattle.sweeps.specs.Order.{sideOf, forthOf}
 use Rattle.sweeps.specs.Number.{side-few}
 use Rattle.paths.specs.State.{State}
 use Rattle.paths.specs.Bounds.{SameSize}

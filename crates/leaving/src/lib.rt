@@ -7,6 +7,7 @@ use constraints::following;
 use constraints::not_after;
 use last_resets::later;
 use last_resets::lowest;
+use ways::CHECKS;
 ghost use mathlib.Core.Path.{_≡_};
 ghost use Prim.Native.Nat.{_+_, _*_, _%_, _≤_, _<_, _^_};
 ghost use Rattle.sweeps.specs.Order.{forthOf};
@@ -14,9 +15,6 @@ ghost use Rattle.paths.specs.State.{state};
 ghost use Rattle.checks.specs.Some.{Able};
 ghost use Rattle.ways.specs.Forth.{Going};
 ghost use Rattle.ways.specs.Steps.{stepsOf, Went};
-
-// How many checks a way has for each step, if it is not to end early: twice as many as a pass can have.
-const CHECKS: u64 = 26;
 
 // How far a way has come: the moment to go on with, and the stamp of the next check.
 struct Way {

@@ -15,17 +15,17 @@ use Rattle.sweeps.specs.Number.{sweep-few}
 use Rattle.paths.specs.Places.{at, filled, length-written}
 use Rattle.paths.specs.Constraint.{Constraint, All, Fits}
 use Rattle.paths.specs.State.{State, state, passOf, hitsOf, passesOf, passes-none, passes-more}
-use Rattle.paths.specs.Bounds.{SameSize, Room, Under, room-kept}
+use Rattle.paths.specs.Bounds.{SameSize, Under, room-kept}
 use Rattle.paths.specs.Pass.{Start}
 use Rattle.paths.specs.Cycle.{OnCycle}
 use Rattle.paths.specs.Outcome.{outcome-must}
 use Rattle.paths.specs.Search.{Searchable, Search, found-some}
-use Rattle.checks.specs.Checks.{unit, length-edges, slight-fits}
-use Rattle.checks.specs.Some.{Some, Onto, Able, onto-wider, onto-size, able-narrower}
+use Rattle.checks.specs.Checks.{length-edges, slight-fits}
+use Rattle.checks.specs.Some.{Some, Able, onto-wider, able-narrower}
 use Rattle.ways.specs.Steps.{stepsOf, Went}
 use Rattle.relaxing.specs.Rows.{Rows, sweep, moments, constraintsOf, Sound, sound-moments}
 use Rattle.relaxing.specs.Pass.{Passable, Swept}
-use Rattle.relaxing.specs.Passes.{Begins, Ready, Ended}
+use Rattle.relaxing.specs.Passes.{Begins, Ended}
 use Rattle.relaxing.specs.Reached.{Reached, reached-first, reached-more, reached-size, reached-able, reached-passable, reached-under, reached-links}
 use Rattle.relaxing.specs.Reached.{reached-rises, reached-least, reached-negative, reached-cleared, onto-swept}
 

@@ -11,7 +11,6 @@ use ways::check_partners;
 use ways::check_starts;
 use ways::forth;
 ghost use Prim.Native.Nat.{_+_, _≤_, _^_};
-ghost use lib.ListN.{length};
 ghost use Rattle.paths.specs.State.{state};
 ghost use Rattle.checks.specs.Some.{Able};
 ghost use Rattle.ways.specs.Forth.{Going};

@@ -5,7 +5,7 @@ use mathlib.Core.List.{List, _++_, List·Memᴰ, List·Memᴰ·head, Memᴰ·app
 use Prim.Native.Nat.{ℕ, zero, suc, _+_, _*_, _-_, _≤_, _<_}
 use native.Mathlib.Omega.{arith}
 use native.Mathlib.Decide.{decLe}
-use lib.ListN.{length, take, drop, replicate, length-replicate, getD-replicate}
+use lib.ListN.{length, drop, replicate, length-replicate, getD-replicate}
 use Rattle.runs.specs.Demand.{plus, startsOf}
 use Rattle.runs.specs.Start.{start-upper}
 use Rattle.sweeps.specs.Order.{returnOf, partnersFrom}
@@ -18,7 +18,7 @@ use Rattle.paths.specs.State.{State, state}
 use Rattle.paths.specs.Bounds.{Room}
 use Rattle.paths.specs.Code.{Wrote, wrote-rest, Returns, cycle-returns}
 use Rattle.checks.specs.InParts.{edge}
-use Rattle.relaxing.specs.Rows.{Rows, sweep, moments, constraintsOf, Sound}
+use Rattle.relaxing.specs.Rows.{Rows, moments, constraintsOf, Sound}
 use Rattle.relaxing.specs.Passes.{Begins, Ready, Ended}
 use Rattle.readout.specs.LeastStart.{leastStart}
 use Rattle.readout.specs.OneClock.{least-forth}

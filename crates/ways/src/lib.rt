@@ -19,6 +19,9 @@ ghost use Rattle.paths.specs.State.{state};
 ghost use Rattle.checks.specs.Checks.{Checkable, Checked};
 ghost use Rattle.ways.specs.Forth.{Going};
 
+// How many checks a way home or out has for each step, if it is not to end early: twice as many as a pass can have.
+pub const CHECKS: u64 = 26;
+
 // The check of a partner, if it is one.
 fn check_partner(
     partner: Partner,

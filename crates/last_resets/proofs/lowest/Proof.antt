@@ -5,10 +5,6 @@ use Prim.Native.Nat.{_+_, _-_, _≤_}
 use Rattle.last_resets.specs.Within.{last-within}
 use Rattle.last_resets.proofs.lowest.Statement.{statement}
 use Rattle.last_resets.proofs.lowest.Tie as tie
-use Rattle.last_resets.proofs.lowest.Reads as reads
-use Rattle.last_resets.proofs.lowest.Lts as lts
-use Rattle.last_resets.proofs.lower.Reads as lower-reads
-use Rattle.last_resets.proofs.last_reset.Reads as last-reset-reads
 
 abbrev Inv-loop : tie.InvT-loop
 Inv-loop raised far clocks total s i stamp since low found₀ j₀ found j = (1 ≤ j) × (found ≤ low)

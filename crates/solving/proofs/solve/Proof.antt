@@ -4,7 +4,6 @@ use Rattle.solving.specs.Solve.{answer-cycle, answer-moments, answer-pla
 use Rattle.paths.specs.State.{state}
 use Rattle.relaxing.specs.Rows.{rows}
 use Rattle.relaxing.specs.Passes.{Ready}
-use mathlib.Core.Path.{_∙_}
 use borrow.Author.Needs.{needs}
 use native.Mathlib.Omega.{arith}
 use Rattle.solving.proofs.solve.Statement.{statement}

@@ -2,7 +2,6 @@
 use Rattle.solving.specs.Solve.{spacious}
 use Rattle.relaxing.specs.Rows.{sound-moments}
 use borrow.Author.Needs.{needs}
-use native.Mathlib.Omega.{arith}
 use Rattle.spaces.proofs.solve_large.Statement.{statement}
 use Rattle.spaces.proofs.solve_large.Tie as tie
 
