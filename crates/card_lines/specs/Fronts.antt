@@ -40,9 +40,9 @@ front text at inside = go (lineAt text at) refl (told text at)
     go _ e nothing =
         let w = lines-wrong at (drop at text) more (λ c rest is. kind-some c (ap (λ f. f .kind) (sym e) ∙ heard text at c rest is)) in
         is-wrong (w .0) (w .1)
-    go _ e (a-line c next there) =
+    go _ e (a-line c next plain there) =
         is-line c next
-        (ap (linesAt at) begins ∙ lines-text at c (drop next text)
+        (ap (linesAt at) begins ∙ lines-text at c (drop next text) plain
         ∙ ap (λ n. record { place = at; content = some c } ∷ linesAt n (drop next text)) (sym size))
         (omega (arith, size))
         (stands-within (omega arith) there)

@@ -10,6 +10,7 @@ use Rattle.table.specs.declared.Relation.{Relation}
 use Rattle.wire.specs.Listing.{guard, reset, Content, head, entry, finish, close}
 use Rattle.format.specs.Encode.{relationCode}
 use Rattle.cards.specs.Words.{timersWord, zeroWord, stepWord, endWord}
+use Rattle.cards.specs.Card.{bound, PlainContent}
 use Rattle.cards.specs.Convert.{numeral, lineText}
 use Rattle.card_lines.specs.declared.Numeral.{Numeral}
 use Rattle.card_lines.specs.declared.Found.{Found}
@@ -31,7 +32,7 @@ module _ (text : List ℕ) (at : ℕ) where
   -- what is found tells nothing, or of a line that stands there
   pub data Tells : Found → Type 0 where
     nothing : Tells wrongFound
-    a-line : (c : Content) (next : ℕ) → Stands text at next (lineText c ++ 10 ∷ []) → Tells (foundOf c next)
+    a-line : (c : Content) (next : ℕ) → PlainContent c → Stands text at next (lineText c ++ 10 ∷ []) → Tells (foundOf c next)
 
   -- a content, and then the line feed
   closed-found : (c : Content) (p : ℕ) → closedAt text (foundOf c p) ≡ cond (starts (10 ∷ []) (drop p text)) (foundOf c (p + 1)) wrongFound
@@ -42,19 +43,19 @@ module _ (text : List ℕ) (at : ℕ) where
   closed-found finish p = refl
   closed-found close p = refl
 
-  closed-told : (c : Content) (p : ℕ) → Stands text at p (lineText c) → Tells (closedAt text (foundOf c p))
-  closed-told c p there = subst Tells (sym (closed-found c p)) (go (starts (10 ∷ []) (drop p text)) refl)
+  closed-told : (c : Content) (p : ℕ) → PlainContent c → Stands text at p (lineText c) → Tells (closedAt text (foundOf c p))
+  closed-told c p plain there = subst Tells (sym (closed-found c p)) (go (starts (10 ∷ []) (drop p text)) refl)
     where
       go : (b : Bool) → starts (10 ∷ []) (drop p text) ≡ b → Tells (cond b (foundOf c (p + 1)) wrongFound)
-      go true e = a-line c (p + 1) (stands-then there (starts-stands text p (10 ∷ []) e))
+      go true e = a-line c (p + 1) plain (stands-then there (starts-stands text p (10 ∷ []) e))
       go false e = nothing
 
   -- a word and a number
-  numbered-told : (kind p : ℕ) (w : List ℕ) (make : ℕ → Content) → ((n : ℕ) → w ++ numeral n ≡ lineText (make n))
+  numbered-told : (kind p : ℕ) (w : List ℕ) (make : ℕ → Content) → ((n : ℕ) → PlainContent (make n)) → ((n : ℕ) → w ++ numeral n ≡ lineText (make n))
       → ((n next : ℕ) → foundOf (make n) next ≡ record { kind = kind; first = held n; relation = 0; second = 0; next = next })
       → Stands text at p w → Tells (numberedAt text p kind)
   unfolding numberedAt
-  numbered-told kind p w make says is there = go (eqb (numberAt text p .next) p) refl
+  numbered-told kind p w make plain says is there = go (eqb (numberAt text p .next) p) refl
     where
       found : Found
       found = record { kind = kind; first = numberAt text p .value; relation = 0; second = 0; next = numberAt text p .next }
@@ -66,12 +67,10 @@ module _ (text : List ℕ) (at : ℕ) where
       go true e = nothing
       go false e =
           subst (λ f. Tells (closedAt text f)) same
-          (closed-told (make (numberOf text p)) (numberAt text p .next) (stands-as (says (numberOf text p)) (stands-then there (number-stands text p (eqb-false _ _ e)))))
+          (closed-told (make (numberOf text p)) (numberAt text p .next) (plain (numberOf text p))
+          (stands-as (says (numberOf text p)) (stands-then there (number-stands text p (eqb-false _ _ e)))))
 
   -- a number, a sign and a number
-  abbrev bound : ℕ → Relation → ℕ → Content
-  bound n r m = entry (guard (record { clock = n; relation = r; constant = m }))
-
   bound-text : (n : ℕ) (r : Relation) (m : ℕ) → (numeral n ++ signText r) ++ numeral m ≡ lineText (bound n r m)
   bound-text n r m = simp append-assoc
 
@@ -86,7 +85,7 @@ module _ (text : List ℕ) (at : ℕ) where
           subst (λ v. Tells (closedAt text
           (record { kind = 2; first = held n; relation = relationCode r; second = v; next = numberAt text q .next })))
           (number-value text q)
-          (closed-told (bound n r (numberOf text q)) _
+          (closed-told (bound n r (numberOf text q)) _ (record { second = refl; minus = refl })
           (stands-as (bound-text n r (numberOf text q)) (stands-then there (number-stands text q (eqb-false _ _ e)))))
 
   related-told : (n p : ℕ) (sign : Numeral) → Stands text at p (numeral n) → Signed text p sign
@@ -110,10 +109,10 @@ module _ (text : List ℕ) (at : ℕ) where
   pub told : Tells (lineAt text at)
   unfolding lineAt
   told =
-      word timers (numbered-told 1 _ timers head (λ n. refl) (λ n next. refl))
-      (word zeroed (numbered-told 3 _ zeroed (λ j. entry (reset j)) (λ n. refl) (λ n next. refl))
-      (word (stepWord ++ 10 ∷ []) (a-line finish _)
-      (word (endWord ++ 10 ∷ []) (a-line close _)
+      word timers (numbered-told 1 _ timers head (λ n. tt) (λ n. refl) (λ n next. refl))
+      (word zeroed (numbered-told 3 _ zeroed (λ j. entry (reset j)) (λ n. tt) (λ n. refl) (λ n next. refl))
+      (word (stepWord ++ 10 ∷ []) (a-line finish _ tt)
+      (word (endWord ++ 10 ∷ []) (a-line close _ tt)
       bound-told)))
     where
       timers : List ℕ

@@ -128,6 +128,6 @@ module _ (text : List ℕ) where
       go : (drop at text ≡ []) ⊎ (WithText (drop at text) ⊎ WithWrong at (drop at text))
           → tailOf (λ l. l .place) t (linesOn at) ≡ read.Refused (record { fault = fault.Tail; place = at })
       go (inl is) = absurd (omega (arith, ap length is, length-drop at text))
-      go (inr (inl (c, rest, is))) =
-          ap (λ s. tailOf (λ l. l .place) t (linesAt at s)) is ∙ ap (tailOf (λ l. l .place) t) (lines-text at c rest)
+      go (inr (inl (c, plain, rest, is))) =
+          ap (λ s. tailOf (λ l. l .place) t (linesAt at s)) is ∙ ap (tailOf (λ l. l .place) t) (lines-text at c rest plain)
       go (inr (inr (ls, is))) = ap (tailOf (λ l. l .place) t) is

@@ -9,6 +9,7 @@ use Rattle.table.specs.declared.Fault.the-variants as fault
 use Rattle.table.specs.declared.Read.{Read}
 use Rattle.table.specs.declared.Read.the-variants as read
 use Rattle.table.specs.declared.Relation.{Relation}
+use Rattle.table.specs.Step.{Plain}
 use Rattle.records.specs.declared.Tally.{Tally}
 use Rattle.records.specs.declared.Verdict.{Verdict}
 use Rattle.records.specs.declared.Verdict.the-variants.{Refused}
@@ -18,10 +19,22 @@ use Rattle.wire.specs.Listing.{guard, reset, Content, head, entry, finish, clos
 use Rattle.format.specs.Encode.{relationCode}
 use Rattle.cards.specs.Words.{isEmpty, same, pieces, timersWord, zeroWord, stepWord, endWord, relationIn, isNumber, value}
 
--- "N < C", "N <= C", "N = C", "N >= C", "N > C": a bound, if the sign is one
+-- "N < C", "N <= C", "N = C", "N >= C", "N > C": a bound, of one timer
+abbrev pub bound : ℕ → Relation → ℕ → Content
+bound n r c = entry (guard (record { clock = n; second = 0; relation = r; minus = false; constant = c }))
+
+-- the same, if the sign is one
 abbrev pub boundOf : ℕ → Option Relation → ℕ → Option Content
 boundOf n none c = none
-boundOf n (some r) c = some (entry (guard (record { clock = n; relation = r; constant = c })))
+boundOf n (some r) c = some (bound n r c)
+
+-- what a line can say: any content but a guard of two clocks
+abbrev pub PlainContent : Content → Type 0
+PlainContent (head n) = Unit
+PlainContent (entry (guard g)) = Plain g
+PlainContent (entry (reset j)) = Unit
+PlainContent finish = Unit
+PlainContent close = Unit
 
 -- What a line says, by its words: "step"; "end"; "timers N"; "zero N"; or a bound. Any other is a wrong line, and says nothing.
 unfoldable pub says : List (List ℕ) → Option Content

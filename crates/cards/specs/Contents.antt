@@ -1,14 +1,15 @@
 -- What records say, one after the other: as the bytes of a table, and as the text of a card; both are read back.
-use mathlib.Core.Path.{_≡_, refl, _∙_, ap}
-use mathlib.Core.List.{List, [], _∷_, _++_}
+use mathlib.Core.Path.{_≡_, refl, sym, _∙_, ap, subst}
+use mathlib.Core.Logic.{⊎-elim}
+use mathlib.Core.List.{List, [], _∷_, _++_, List·Memᴰ, List·Memᴰ·head, List·Memᴰ·tail, List·Memᴰ·cases-cons}
 use mathlib.Core.Option.{some}
 use Prim.Native.Nat.{ℕ, _+_}
 use native.Mathlib.Omega.{arith}
 use lib.ListN.{length}
 use Rattle.wire.specs.Records.{Record, recordsFrom, records}
 use Rattle.wire.specs.Listing.{guard, reset, Content, head, entry, finish, close, contentOf}
-use Rattle.format.specs.Shapes.{entryAt, finishAt, endAt, content-entry}
-use Rattle.cards.specs.Card.{Line, linesAt}
+use Rattle.format.specs.Shapes.{entryAt, finishAt, endAt, content-guard}
+use Rattle.cards.specs.Card.{PlainContent, Line, linesAt}
 use Rattle.cards.specs.Convert.{recordBytes, lineText, bytesOf, textOf, tableOf, cardOf}
 use Rattle.cards.specs.LineByLine.{lines-none, lines-text}
 
@@ -21,6 +22,10 @@ recordOf at close = endAt at
 
 abbrev pub lineOf : ℕ → Content → Line
 lineOf at c = record { place = at; content = some c }
+
+-- contents that lines can say
+abbrev pub PlainContents : List Content → Type 0
+PlainContents cs = (c : Content) → List·Memᴰ c cs → PlainContent c
 
 -- contents as bytes, and the records from a place on that these are
 unfoldable pub bytesFor : List Content → List ℕ
@@ -55,24 +60,27 @@ records-for at [] = refl
 records-for at (c ∷ cs) =
     record-first at c (bytesFor cs) ∙ ap (λ rs. recordOf at c ∷ rs) (records-for (at + length (recordBytes c)) cs)
 
-pub lines-for : (at : ℕ) (cs : List Content) → linesAt at (textFor cs) ≡ lined at cs
+pub lines-for : (at : ℕ) (cs : List Content) → PlainContents cs → linesAt at (textFor cs) ≡ lined at cs
 unfolding textFor lined
-lines-for at [] = lines-none at
-lines-for at (c ∷ cs) =
-    lines-text at c (textFor cs) ∙ ap (λ ls. lineOf at c ∷ ls) (lines-for (at + length (lineText c) + 1) cs)
+lines-for at [] plain = lines-none at
+lines-for at (c ∷ cs) plain =
+    lines-text at c (textFor cs) (plain c (List·Memᴰ·head refl))
+    ∙ ap (λ ls. lineOf at c ∷ ls) (lines-for (at + length (lineText c) + 1) cs (λ d m. plain d (List·Memᴰ·tail m)))
 
 -- a record says its content
-pub content-of : (at : ℕ) (c : Content) → contentOf (recordOf at c) ≡ c
-content-of at (head n) = refl
-content-of at (entry e) = content-entry at e
-content-of at finish = refl
-content-of at close = refl
+pub content-of : (at : ℕ) (c : Content) → PlainContent c → contentOf (recordOf at c) ≡ c
+content-of at (head n) plain = refl
+content-of at (entry (guard g)) plain = content-guard at g plain
+content-of at (entry (reset j)) plain = refl
+content-of at finish plain = refl
+content-of at close plain = refl
 
-text-recorded : (at : ℕ) (cs : List Content) → textOf (recorded at cs) ≡ textFor cs
+text-recorded : (at : ℕ) (cs : List Content) → PlainContents cs → textOf (recorded at cs) ≡ textFor cs
 unfolding textOf recorded textFor
-text-recorded at [] = refl
-text-recorded at (c ∷ cs) =
-    (λ i. lineText (content-of at c i) ++ 10 ∷ text-recorded (at + length (recordBytes c)) cs i)
+text-recorded at [] plain = refl
+text-recorded at (c ∷ cs) plain =
+    λ i. lineText (content-of at c (plain c (List·Memᴰ·head refl)) i)
+    ++ 10 ∷ text-recorded (at + length (recordBytes c)) cs (λ d m. plain d (List·Memᴰ·tail m)) i
 
 bytes-lined : (at : ℕ) (cs : List Content) → bytesOf (lined at cs) ≡ bytesFor cs
 unfolding bytesOf lined bytesFor
@@ -80,10 +88,14 @@ bytes-lined at [] = refl
 bytes-lined at (c ∷ cs) = ap (λ bs. recordBytes c ++ bs) (bytes-lined (at + length (lineText c) + 1) cs)
 
 -- So contents go from a table to a card, and from a card to a table.
-pub card-for : (cs : List Content) → cardOf (bytesFor cs) ≡ textFor cs
+pub card-for : (cs : List Content) → PlainContents cs → cardOf (bytesFor cs) ≡ textFor cs
 unfolding cardOf
-card-for cs = ap textOf (records-for 0 cs) ∙ text-recorded 0 cs
+card-for cs plain = ap textOf (records-for 0 cs) ∙ text-recorded 0 cs plain
 
-pub table-for : (cs : List Content) → tableOf (textFor cs) ≡ bytesFor cs
+pub table-for : (cs : List Content) → PlainContents cs → tableOf (textFor cs) ≡ bytesFor cs
 unfolding tableOf
-table-for cs = ap bytesOf (lines-for 0 cs) ∙ bytes-lined 0 cs
+table-for cs plain = ap bytesOf (lines-for 0 cs plain) ∙ bytes-lined 0 cs
+
+-- one more of them
+pub plain-more : (c : Content) (cs : List Content) → PlainContent c → PlainContents cs → PlainContents (c ∷ cs)
+plain-more c cs first rest d m = ⊎-elim (λ e. subst PlainContent (sym e) first) (rest d) (List·Memᴰ·cases-cons m)

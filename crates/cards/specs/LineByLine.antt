@@ -1,5 +1,5 @@
 -- The lines of a card one by one: the first line, and those of the text after it.
-use mathlib.Core.Path.{_≡_, refl, sym, _∙_, ap}
+use mathlib.Core.Path.{_≡_, refl, sym, _∙_, ap, subst}
 use mathlib.Core.Logic.{_⊎_, inl, inr, ⊎-elim}
 use mathlib.Core.List.{List, [], _∷_, _++_, nil≢cons, head-eq-of-cons-eq, tail-eq-of-cons-eq}
 use mathlib.Core.Option.{Option, none, some, Option·none-ne-some, Option·some-injective}
@@ -7,10 +7,10 @@ use Prim.Native.Nat.{ℕ, _+_}
 use lib.ListN.{length}
 use Rattle.wire.specs.Listing.{Content}
 use Rattle.cards.specs.Words.{pieces}
-use Rattle.cards.specs.Card.{says, Line, linesFrom, linesAt}
+use Rattle.cards.specs.Card.{PlainContent, says, Line, linesFrom, linesAt}
 use Rattle.cards.specs.Convert.{lineText}
 use Rattle.cards.specs.Pieces.{Free, First, parted, pieces-some, pieces-next, pieces-last}
-use Rattle.cards.specs.Says.{says-text, text-says, text-free}
+use Rattle.cards.specs.Says.{says-text, text-says, says-plain, text-free}
 
 pub lines-none : (at : ℕ) → linesAt at [] ≡ []
 unfolding linesFrom pieces
@@ -40,13 +40,13 @@ lines-said : (at : ℕ) (w rest : List ℕ) (o : Option Content) → Free 10 w �
 lines-said at w rest o free e =
     lines-next at w rest free ∙ ap (λ (x : Option Content). line at x ∷ linesAt (at + length w + 1) rest) e
 
-pub lines-text : (at : ℕ) (c : Content) (rest : List ℕ)
+pub lines-text : (at : ℕ) (c : Content) (rest : List ℕ) → PlainContent c
     → linesAt at (lineText c ++ 10 ∷ rest) ≡ line at (some c) ∷ linesAt (at + length (lineText c) + 1) rest
-lines-text at c rest = lines-said at (lineText c) rest (some c) (text-free c) (says-text c)
+lines-text at c rest plain = lines-said at (lineText c) rest (some c) (text-free c) (says-text c plain)
 
 -- A text is empty, starts with the text of a line, or starts with a wrong line.
 abbrev pub WithText : List ℕ → Type 0
-WithText s = (c : Content) × (rest : List ℕ) × (s ≡ lineText c ++ 10 ∷ rest)
+WithText s = (c : Content) × PlainContent c × (rest : List ℕ) × (s ≡ lineText c ++ 10 ∷ rest)
 
 abbrev pub WithWrong : ℕ → List ℕ → Type 0
 WithWrong at s = (ls : List Line) × (linesAt at s ≡ line at none ∷ ls)
@@ -58,7 +58,7 @@ line-cases at (b ∷ bs) = inr (go (parted 10 (b ∷ bs)))
     ends : (w rest : List ℕ) → Free 10 w → b ∷ bs ≡ w ++ 10 ∷ rest → (o : Option Content) → says (pieces 32 w) ≡ o
         → WithText (b ∷ bs) ⊎ WithWrong at (b ∷ bs)
     ends w rest free is none e = inr (_, ap (linesAt at) is ∙ lines-said at w rest none free e)
-    ends w rest free is (some c) e = inl (c, rest, is ∙ ap (λ (u : List ℕ). u ++ 10 ∷ rest) (text-says w c e))
+    ends w rest free is (some c) e = inl (c, says-plain (pieces 32 w) c e, rest, is ∙ ap (λ (u : List ℕ). u ++ 10 ∷ rest) (text-says w c e))
 
     go : Free 10 (b ∷ bs) ⊎ First 10 (b ∷ bs) → WithText (b ∷ bs) ⊎ WithWrong at (b ∷ bs)
     go (inl free) = inr ([], lines-last at b bs free)
@@ -69,16 +69,16 @@ pub lines-wrong : (at : ℕ) (s : List ℕ) → (s ≡ [] → ⊥) → ((c : Con
     → (ls : List Line) × (linesAt at s ≡ line at none ∷ ls)
 lines-wrong at s some-bytes no-text =
     ⊎-elim (λ is. absurd (some-bytes is))
-    (⊎-elim (λ text. absurd (no-text (text .0) (text .1) (text .2))) (λ wrong. wrong))
+    (⊎-elim (λ text. absurd (no-text (text .0) (text .2) (text .3))) (λ wrong. wrong))
     (line-cases at s)
 
--- What the first line says, the text starts with, and the other lines are those of the rest.
+-- What the first line says, the text starts with, it is no guard of two clocks, and the other lines are those of the rest.
 abbrev First-of : ℕ → List ℕ → ℕ → Content → List Line → Type 0
-First-of at s p c ls = (p ≡ at) × ((rest : List ℕ) × (s ≡ lineText c ++ 10 ∷ rest) × (ls ≡ linesAt (at + length (lineText c) + 1) rest))
+First-of at s p c ls = (p ≡ at) × PlainContent c × ((rest : List ℕ) × (s ≡ lineText c ++ 10 ∷ rest) × (ls ≡ linesAt (at + length (lineText c) + 1) rest))
 
-same-first : (at : ℕ) (s : List ℕ) (p : ℕ) (c d : Content) (ls : List Line) (rest : List ℕ) → s ≡ lineText d ++ 10 ∷ rest
+same-first : (at : ℕ) (s : List ℕ) (p : ℕ) (c d : Content) (ls : List Line) (rest : List ℕ) → PlainContent d → s ≡ lineText d ++ 10 ∷ rest
     → line p (some c) ∷ ls ≡ line at (some d) ∷ linesAt (at + length (lineText d) + 1) rest → First-of at s p c ls
-same-first at s p c d ls rest is e = (ap (λ (l : Line). l .place) first, (rest, text, others))
+same-first at s p c d ls rest plain is e = (ap (λ (l : Line). l .place) first, subst PlainContent said plain, (rest, text, others))
   where
     first : line p (some c) ≡ line at (some d)
     first = head-eq-of-cons-eq e
@@ -93,12 +93,13 @@ same-first at s p c d ls rest is e = (ap (λ (l : Line). l .place) first, (rest,
     others = tail-eq-of-cons-eq e ∙ ap (λ (x : Content). linesAt (at + length (lineText x) + 1) rest) said
 
 pub lines-first : (at : ℕ) (s : List ℕ) (p : ℕ) (c : Content) (ls : List Line) → linesAt at s ≡ line p (some c) ∷ ls
-    → (p ≡ at) × ((rest : List ℕ) × (s ≡ lineText c ++ 10 ∷ rest) × (ls ≡ linesAt (at + length (lineText c) + 1) rest))
+    → (p ≡ at) × PlainContent c × ((rest : List ℕ) × (s ≡ lineText c ++ 10 ∷ rest) × (ls ≡ linesAt (at + length (lineText c) + 1) rest))
 lines-first at s p c ls e = go (line-cases at s)
   where
     go : (s ≡ []) ⊎ (WithText s ⊎ WithWrong at s) → First-of at s p c ls
     go (inl is) = absurd (nil≢cons (sym (ap (linesAt at) is ∙ lines-none at) ∙ e))
-    go (inr (inl (d, rest, is))) = same-first at s p c d ls rest is (sym e ∙ ap (linesAt at) is ∙ lines-text at d rest)
+    go (inr (inl (d, plain, rest, is))) =
+        same-first at s p c d ls rest plain is (sym e ∙ ap (linesAt at) is ∙ lines-text at d rest plain)
     go (inr (inr (ws, is))) =
         absurd (Option·none-ne-some c (ap (λ (l : Line). l .content) (head-eq-of-cons-eq (sym is ∙ e))))
 
@@ -108,5 +109,5 @@ lines-empty at s e = go (line-cases at s)
   where
     go : (s ≡ []) ⊎ (WithText s ⊎ WithWrong at s) → s ≡ []
     go (inl is) = is
-    go (inr (inl (c, rest, is))) = absurd (nil≢cons (sym e ∙ ap (linesAt at) is ∙ lines-text at c rest))
+    go (inr (inl (c, plain, rest, is))) = absurd (nil≢cons (sym e ∙ ap (linesAt at) is ∙ lines-text at c rest plain))
     go (inr (inr (ls, is))) = absurd (nil≢cons (sym e ∙ is))

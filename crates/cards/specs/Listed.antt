@@ -1,6 +1,6 @@
 -- The contents of a table that is written down, and how long its card is: at most 1,405 bytes, and some are as long.
 use mathlib.Core.Path.{_≡_, refl, sym, _∙_, ap}
-use mathlib.Core.List.{List, [], _∷_, _++_, append-assoc, List·Memᴰ}
+use mathlib.Core.List.{List, [], _∷_, _++_, append-assoc, List·Memᴰ, List·Memᴰ·not-nil}
 use mathlib.Core.List.List·Memᴰ.{List·Memᴰ·head, List·Memᴰ·tail}
 use Prim.Native.Nat.{ℕ, _+_, _*_, _≤_, _<_}
 use native.Mathlib.Omega.{arith}
@@ -14,7 +14,8 @@ use Rattle.format.specs.Longest.{resets-few}
 use Rattle.cards.specs.Words.{timersWord, zeroWord}
 use Rattle.cards.specs.Convert.{numeral, signOf, lineText}
 use Rattle.cards.specs.Numbers.{numeral-short}
-use Rattle.cards.specs.Contents.{bytesFor, textFor}
+use Rattle.cards.specs.Card.{PlainContent}
+use Rattle.cards.specs.Contents.{PlainContents, bytesFor, textFor, plain-more}
 
 -- the contents of a step's entries and its end, before others; of steps and the end of the table; of a table
 unfoldable pub stepContents : List Entry → List Content → List Content
@@ -43,6 +44,28 @@ steps-bytes (s ∷ ss) = step-bytes s (stepsContents ss) ∙ ap (λ bs. stepByte
 pub contents-bytes : (l : Listing) → bytesFor (contentsOf l) ≡ encode l
 unfolding bytesFor encode
 contents-bytes l = ap (λ bs. 1 ∷ l .clocks ∷ bs) (steps-bytes (l .steps))
+
+-- none of them is a guard of two clocks
+entry-plain : (n : ℕ) (e : Entry) → LegalEntry n e → PlainContent (entry e)
+entry-plain n (guard g) legal = legal .3
+entry-plain n (reset j) legal = tt
+
+step-plain : (n : ℕ) (es : List Entry) (cs : List Content) → ((e : Entry) → List·Memᴰ e es → LegalEntry n e) → PlainContents cs
+    → PlainContents (stepContents es cs)
+unfolding stepContents
+step-plain n [] cs h rest = plain-more finish cs tt rest
+step-plain n (e ∷ es) cs h rest =
+    plain-more (entry e) (stepContents es cs) (entry-plain n e (h e (List·Memᴰ·head refl)))
+    (step-plain n es cs (λ f m. h f (List·Memᴰ·tail m)) rest)
+
+steps-plain : (n : ℕ) (ss : List (List Entry)) → LegalSteps n ss → PlainContents (stepsContents ss)
+unfolding stepsContents
+steps-plain n [] h = plain-more close [] tt (λ c m. absurd (List·Memᴰ·not-nil m))
+steps-plain n (s ∷ ss) h =
+    step-plain n s (stepsContents ss) (h s (List·Memᴰ·head refl) .entries) (steps-plain n ss (λ x m. h x (List·Memᴰ·tail m)))
+
+pub contents-plain : (l : Listing) → Legal l → PlainContents (contentsOf l)
+contents-plain l h = plain-more (head (l .clocks)) (stepsContents (l .steps)) tt (steps-plain (l .clocks) (l .steps) (h .each))
 
 -- the longest lines: "6 <= 4000", "zero 6", "step", "end", "timers 6", each with its line feed
 sign-short : (r : Relation) → length (signOf r) ≤ 2

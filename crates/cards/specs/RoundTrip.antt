@@ -23,11 +23,11 @@ use Rattle.format.specs.Shapes.{refused-counted}
 use Rattle.cards.specs.Words.{same, isDigits, isNumber, onto, pieces}
 use Rattle.cards.specs.Card.{says, linesFrom, linesAt, checkLines, cardRead}
 use Rattle.cards.specs.Convert.{tableOf, textOf, cardOf}
-use Rattle.cards.specs.Contents.{bytesFor, textFor, recorded, records-for, lines-for, card-for, table-for}
+use Rattle.cards.specs.Contents.{PlainContents, bytesFor, textFor, recorded, records-for, lines-for, card-for, table-for}
 use Rattle.cards.specs.Alike.{SameRead, both-refuse, both-count, check-alike}
 use Rattle.cards.specs.Accepted.{Says, counted-says}
 use Rattle.cards.specs.Small.{counted-small}
-use Rattle.cards.specs.Listed.{contentsOf, contents-bytes, card-longest}
+use Rattle.cards.specs.Listed.{contentsOf, contents-bytes, contents-plain, card-longest}
 
 -- A card and a table that are converted into each other: both are accepted, with the same counts.
 pub record Corresponds (text bytes : List ℕ) (n l g : ℕ) : Type 0 where
@@ -65,15 +65,15 @@ counted-left (both-count m k h) e = e
 
 module _ (n l g : ℕ) where
   -- contents that a table counts
-  counted-both : (cs : List Content) → Bytes (bytesFor cs)
+  counted-both : (cs : List Content) → PlainContents cs → Bytes (bytesFor cs)
       → check (length (bytesFor cs)) start (recorded 0 cs) ≡ read.Counted n l g → Corresponds (textFor cs) (bytesFor cs) n l g
-  counted-both cs small e = record {
+  counted-both cs plain small e = record {
     card =
-        card-short (textFor cs) (omega (arith, few)) ∙ ap (checkLines (length (textFor cs)) start) (lines-for 0 cs)
+        card-short (textFor cs) (omega (arith, few)) ∙ ap (checkLines (length (textFor cs)) start) (lines-for 0 cs plain)
         ∙ counted-left (check-alike (length (textFor cs)) (length (bytesFor cs)) cs start 0 0 refl) e;
     table = read-short (bytesFor cs) (omega (arith, short)) ∙ counted;
-    to-table = table-for cs;
-    to-card = card-for cs;
+    to-table = table-for cs plain;
+    to-card = card-for cs plain;
     small = small;
     table-length = short;
     card-length = few;
@@ -90,15 +90,15 @@ module _ (n l g : ℕ) where
 
       same : textFor (contentsOf (listing (bytesFor cs))) ≡ textFor cs
       same =
-          sym (card-for (contentsOf (listing (bytesFor cs))))
-          ∙ ap cardOf (contents-bytes (listing (bytesFor cs)) ∙ w .written) ∙ card-for cs
+          sym (card-for (contentsOf (listing (bytesFor cs))) (contents-plain (listing (bytesFor cs)) (w .legal)))
+          ∙ ap cardOf (contents-bytes (listing (bytesFor cs)) ∙ w .written) ∙ card-for cs plain
 
       few : length (textFor cs) ≤ 1405
       few = subst (λ s. length s ≤ 1405) same (card-longest (listing (bytesFor cs)) (w .legal))
 
   -- An accepted table corresponds to the card that it is converted to: it goes there and returns byte for byte.
   pub table-card : (bytes : List ℕ) → Bytes bytes → readOf bytes ≡ read.Counted n l g → Corresponds (cardOf bytes) bytes n l g
-  table-card bytes small e = subst (λ s. Corresponds s bytes n l g) (sym (ap cardOf is ∙ card-for cs)) whole
+  table-card bytes small e = subst (λ s. Corresponds s bytes n l g) (sym (ap cardOf is ∙ card-for cs plain)) whole
     where
       w : Written (listing bytes) bytes n l g
       w = accepted-written bytes small n l g e
@@ -106,20 +106,23 @@ module _ (n l g : ℕ) where
       cs : List Content
       cs = contentsOf (listing bytes)
 
+      plain : PlainContents cs
+      plain = contents-plain (listing bytes) (w .legal)
+
       is : bytes ≡ bytesFor cs
       is = sym (contents-bytes (listing bytes) ∙ w .written)
 
       whole : Corresponds (textFor cs) bytes n l g
       whole =
           subst (λ bs. Corresponds (textFor cs) bs n l g) (sym is)
-          (counted-both cs (subst Bytes is small)
+          (counted-both cs plain (subst Bytes is small)
           (ap (check (length (bytesFor cs)) start) (sym (records-for 0 cs))
           ∙ subst (λ bs. check (length bs) start (records bs) ≡ read.Counted n l g) is
           (sym (read-short bytes (counted-short bytes n l g e)) ∙ e)))
 
   -- An accepted card corresponds to the table that it is converted to: it goes there and returns character for character.
   pub card-table : (text : List ℕ) → cardRead text ≡ read.Counted n l g → Corresponds text (tableOf text) n l g
-  card-table text e = subst (λ bs. Corresponds text bs n l g) (sym (ap tableOf (s .text) ∙ table-for (s .contents))) whole
+  card-table text e = subst (λ bs. Corresponds text bs n l g) (sym (ap tableOf (s .text) ∙ table-for (s .contents) (s .plain))) whole
     where
       due : checkLines (length text) start (linesAt 0 text) ≡ read.Counted n l g
       due = sym (card-short text (card-counted-short text n l g e)) ∙ e
@@ -130,12 +133,12 @@ module _ (n l g : ℕ) where
       counted : check (length (bytesFor (s .contents))) start (recorded 0 (s .contents)) ≡ read.Counted n l g
       counted =
           counted-right (check-alike (length text) (length (bytesFor (s .contents))) (s .contents) start 0 0 refl)
-          (ap (checkLines (length text) start) (sym (lines-for 0 (s .contents)) ∙ ap (linesAt 0) (sym (s .text))) ∙ due)
+          (ap (checkLines (length text) start) (sym (lines-for 0 (s .contents) (s .plain)) ∙ ap (linesAt 0) (sym (s .text))) ∙ due)
 
       whole : Corresponds text (bytesFor (s .contents)) n l g
       whole =
           subst (λ t. Corresponds t (bytesFor (s .contents)) n l g) (sym (s .text))
-          (counted-both (s .contents)
+          (counted-both (s .contents) (s .plain)
           (counted-small (length (bytesFor (s .contents))) n l g (s .contents) start 0 (omega arith) counted) counted)
 
 -- So no two accepted cards have the same table, and no two accepted tables the same card.

@@ -1,5 +1,5 @@
--- What a line says, and its text: each is the other's (`says-text`, `text-says`).
-use mathlib.Core.Path.{_≡_, refl, sym, _∙_, ap}
+-- What a line says, and its text: each is the other's (`says-text`, `text-says`). No line says a guard of two clocks (`says-plain`).
+use mathlib.Core.Path.{_≡_, refl, sym, _∙_, ap, subst}
 use mathlib.Core.Bool.{Bool, true, false, cond, _&&_, false≢true}
 use mathlib.Core.List.{List, [], _∷_, _++_, append-assoc, List·Memᴰ·not-nil}
 use mathlib.Core.Option.{Option, none, some, Option·some-injective, Option·none-ne-some}
@@ -10,6 +10,7 @@ use borrow.Author.Tests.{eqb-true, eq-eqb, leb-true}
 use Rattle.table.specs.declared.Guard.{Guard}
 use Rattle.table.specs.declared.Relation.{Relation}
 use Rattle.table.specs.declared.Relation.the-variants.{Under, AtMost, Exactly, AtLeast, Over}
+use Rattle.table.specs.Step.{Plain}
 use Rattle.records.specs.Tests.{both}
 use Rattle.wire.specs.Listing.{guard, reset, Content, head, entry, finish, close}
 use Rattle.cards.specs.Words.{
@@ -28,7 +29,7 @@ use Rattle.cards.specs.Words.{
   isNumber,
   value,
 }
-use Rattle.cards.specs.Card.{says}
+use Rattle.cards.specs.Card.{bound, PlainContent, says}
 use Rattle.cards.specs.Convert.{numeral, signOf, lineText}
 use Rattle.cards.specs.Numbers.{numeral-number, numeral-value, number-numeral, numeral-bytes}
 use Rattle.cards.specs.Pieces.{Free, free-append, free-cons, pieces-next, pieces-last, joined, joined-pieces}
@@ -129,10 +130,20 @@ three-pieces g =
     ∙ ap (λ (ps : List (List ℕ)). numeral (g .clock) ∷ ps)
     (two-pieces (signOf (g .relation)) (g .constant) (sign-free 32 (g .relation) (omega arith)))
 
-pub says-text : (c : Content) → says (pieces 32 (lineText c)) ≡ some c
+guard-same : (g : Guard) → Plain g → bound (g .clock) (g .relation) (g .constant) ≡ entry (guard g)
+guard-same g plain =
+    λ i. entry (guard (record {
+      clock = g .clock;
+      second = sym (plain .second) i;
+      relation = g .relation;
+      minus = sym (plain .minus) i;
+      constant = g .constant;
+    }))
+
+pub says-text : (c : Content) → PlainContent c → says (pieces 32 (lineText c)) ≡ some c
 unfolding says same
-says-text (head n) = ap says (two-pieces timersWord n (timers-free 32 (omega arith))) ∙ simp (numeral-number n, numeral-value n)
-says-text (entry (guard g)) =
+says-text (head n) plain = ap says (two-pieces timersWord n (timers-free 32 (omega arith))) ∙ simp (numeral-number n, numeral-value n)
+says-text (entry (guard g)) plain =
     ap says (three-pieces g)
     ∙ simp (
       numeral-number (g .clock),
@@ -141,29 +152,36 @@ says-text (entry (guard g)) =
       numeral-value (g .clock),
       numeral-value (g .constant),
     )
-says-text (entry (reset j)) = ap says (two-pieces zeroWord j (zero-free 32 (omega arith))) ∙ simp (numeral-number j, numeral-value j)
-says-text finish = ap says (pieces-last 32 stepWord (step-free 32 (omega arith)))
-says-text close = ap says (pieces-last 32 endWord (end-free 32 (omega arith)))
+    (ap some (guard-same g plain))
+says-text (entry (reset j)) plain = ap says (two-pieces zeroWord j (zero-free 32 (omega arith))) ∙ simp (numeral-number j, numeral-value j)
+says-text finish plain = ap says (pieces-last 32 stepWord (step-free 32 (omega arith)))
+says-text close plain = ap says (pieces-last 32 endWord (end-free 32 (omega arith)))
 
 -- Only the text of a line says it.
 bound-text : (n r k : List ℕ) (q : Relation) → (isNumber n ≡ true) × (isNumber k ≡ true) → relationIn r ≡ some q
-    → n ++ 32 ∷ (r ++ 32 ∷ k) ≡ lineText (entry (guard (record { clock = value n; relation = q; constant = value k })))
+    → n ++ 32 ∷ (r ++ 32 ∷ k) ≡ lineText (bound (value n) q (value k))
 bound-text n r k q are is =
     sym (append-assoc n (32 ∷ r) (32 ∷ k))
     ∙ ap (λ (u : List ℕ). u ++ 32 ∷ r ++ 32 ∷ k) (number-numeral n (are .0))
     ∙ ap (λ (u : List ℕ). numeral (value n) ++ 32 ∷ u ++ 32 ∷ k) (relation-sign r q is)
     ∙ ap (λ (u : List ℕ). numeral (value n) ++ 32 ∷ signOf q ++ 32 ∷ u) (number-numeral k (are .1))
 
-said : (ps : List (List ℕ)) (c : Content) → says ps ≡ some c → joined 32 ps ≡ lineText c
+abbrev Said : List ℕ → Content → Type 0
+Said s c = (s ≡ lineText c) × PlainContent c
+
+is-said : {s : List ℕ} (d c : Content) → d ≡ c → PlainContent d → s ≡ lineText d → Said s c
+is-said d c is plain text = (text ∙ ap lineText is, subst PlainContent is plain)
+
+said : (ps : List (List ℕ)) (c : Content) → says ps ≡ some c → Said (joined 32 ps) c
 unfolding says joined
 said [] c e = absurd (Option·none-ne-some c e)
 said (w ∷ []) c e =
-    pick (same w stepWord) finish _ c e (λ t is. same-true w stepWord t ∙ ap lineText is)
-    (λ e. pick (same w endWord) close _ c e (λ t is. same-true w endWord t ∙ ap lineText is)
+    pick (same w stepWord) finish _ c e (λ t is. is-said finish c is tt (same-true w stepWord t))
+    (λ e. pick (same w endWord) close _ c e (λ t is. is-said close c is tt (same-true w endWord t))
     (λ e. absurd (Option·none-ne-some c e)))
 said (w ∷ n ∷ []) c e =
-    pick (isNumber n && same w timersWord) (head (value n)) _ c e (λ t is. word timersWord t ∙ ap lineText is)
-    (λ e. pick (isNumber n && same w zeroWord) (entry (reset (value n))) _ c e (λ t is. word zeroWord t ∙ ap lineText is)
+    pick (isNumber n && same w timersWord) (head (value n)) _ c e (λ t is. is-said (head (value n)) c is tt (word timersWord t))
+    (λ e. pick (isNumber n && same w zeroWord) (entry (reset (value n))) _ c e (λ t is. is-said (entry (reset (value n))) c is tt (word zeroWord t))
     (λ e. absurd (Option·none-ne-some c e)))
   where
     word : (v : List ℕ) → (isNumber n && same w v) ≡ true → w ++ 32 ∷ n ≡ v ++ 32 ∷ numeral (value n)
@@ -172,15 +190,19 @@ said (w ∷ n ∷ []) c e =
         ap (λ (u : List ℕ). u ++ 32 ∷ n) (same-true w v (tests .1)) ∙ ap (λ (ds : List ℕ). v ++ 32 ∷ ds) (number-numeral n (tests .0))
 said (n ∷ r ∷ k ∷ []) c e = go (isNumber n && isNumber k) (relationIn r) refl refl
   where
-    go : (t : Bool) (o : Option Relation) → (isNumber n && isNumber k) ≡ t → relationIn r ≡ o → n ++ 32 ∷ (r ++ 32 ∷ k) ≡ lineText c
+    go : (t : Bool) (o : Option Relation) → (isNumber n && isNumber k) ≡ t → relationIn r ≡ o → Said (n ++ 32 ∷ (r ++ 32 ∷ k)) c
     go false o t is = absurd (Option·none-ne-some c (simp (t) at e))
     go true none t is = absurd (Option·none-ne-some c (simp (t, is) at e))
     go true (some q) t is =
-        bound-text n r k q (both (isNumber n) (isNumber k) t) is ∙ ap lineText (Option·some-injective _ c (simp (t, is) at e))
+        is-said (bound (value n) q (value k)) c (Option·some-injective _ c (simp (t, is) at e)) (record { second = refl; minus = refl })
+        (bound-text n r k q (both (isNumber n) (isNumber k) t) is)
 said (w ∷ x ∷ y ∷ z ∷ ws) c e = absurd (Option·none-ne-some c e)
 
 pub text-says : (s : List ℕ) (c : Content) → says (pieces 32 s) ≡ some c → s ≡ lineText c
-text-says s c e = sym (joined-pieces 32 s) ∙ said (pieces 32 s) c e
+text-says s c e = sym (joined-pieces 32 s) ∙ said (pieces 32 s) c e .0
+
+pub says-plain : (ps : List (List ℕ)) (c : Content) → says ps ≡ some c → PlainContent c
+says-plain ps c e = said ps c e .1
 
 -- The text of a line has no line feed.
 blank-free : (s t : List ℕ) → Free 10 s → Free 10 t → Free 10 (s ++ 32 ∷ t)

@@ -6,6 +6,7 @@ use Prim.Native.Nat.{ℕ, suc, _+_, _-_, _≤_, _<_}
 use native.Mathlib.Numerals.{add-one}
 use native.Mathlib.Omega.{arith}
 use lib.IntN.{ℤ}
+use Rattle.table.specs.Step.{upOf, downOf}
 use Rattle.table.specs.declared.Guard.{Guard}
 use Rattle.table.specs.declared.Relation.{Relation}
 use Rattle.table.specs.declared.Relation.the-variants.{Under, AtMost, Exactly, AtLeast, Over}
@@ -16,43 +17,48 @@ use Rattle.constraints.specs.Pieces.{guardDemand, twiceOf}
 use Rattle.cells.specs.Writing.{Fits, Wrote, Left, left-all, fits-front, left-next, left-done, left-as}
 
 -- ---- a guard: its first demand, and the second where it has two
--- the demands of a guard at moment i, when its clock was last reset at moment z
+-- the demands of a guard, when its clock was last reset at moment z and is compared with moment i
 abbrev pub demandsAt : Guard → ℕ → ℕ → List Demand
-demandsAt g z i = guardDemands (g .relation) (g .constant) z i
+demandsAt g z i = guardDemands (g .relation) (upOf g) (downOf g) z i
 
-abbrev seconds : Relation → ℕ → ℕ → ℕ → List Demand
-seconds r c z i = cond (twiceOf r) (guardDemand r c z i true ∷ []) []
+abbrev seconds : Relation → ℕ → ℕ → ℕ → ℕ → List Demand
+seconds r c d z i = cond (twiceOf r) (guardDemand r c d z i true ∷ []) []
 
-guard-split : (r : Relation) (c z i : ℕ) → guardDemands r c z i ≡ (guardDemand r c z i false ∷ []) ++ seconds r c z i
-guard-split Under c z i = refl
-guard-split AtMost c z i = refl
-guard-split Exactly c z i = refl
-guard-split AtLeast c z i = refl
-guard-split Over c z i = refl
+guard-split : (r : Relation) (c d z i : ℕ) → guardDemands r c d z i ≡ (guardDemand r c d z i false ∷ []) ++ seconds r c d z i
+guard-split Under c d z i = refl
+guard-split AtMost c d z i = refl
+guard-split Exactly c d z i = refl
+guard-split AtLeast c d z i = refl
+guard-split Over c d z i = refl
+
+-- a demand made of what its constant adds and takes off
+pub made : (g : Guard) (z i : ℕ) (u d : ℕ) (b : Bool) (a : Demand) → u ≡ upOf g → d ≡ downOf g
+    → a ≡ guardDemand (g .relation) u d z i b → a ≡ guardDemand (g .relation) (upOf g) (downOf g) z i b
+made g z i u d b a e f h = h ∙ ap (λ n. guardDemand (g .relation) n d z i b) e ∙ ap (λ n. guardDemand (g .relation) (upOf g) n z i b) f
 
 module _ (g : Guard) (z i : ℕ) {old : List ℤ} {q : ℕ} (f : Fits old q (demandsAt g z i)) {a : Demand}
-    (e : a ≡ guardDemand (g .relation) (g .constant) z i false) where
+    (e : a ≡ guardDemand (g .relation) (upOf g) (downOf g) z i false) where
   abbrev others : List Demand
-  others = seconds (g .relation) (g .constant) z i
+  others = seconds (g .relation) (upOf g) (downOf g) z i
 
   first-left : Left old q (demandsAt g z i) old q ((a ∷ []) ++ others)
-  first-left = left-as (guard-split (g .relation) (g .constant) z i ∙ ap (λ x. (x ∷ []) ++ others) (sym e)) (left-all f)
+  first-left = left-as (guard-split (g .relation) (upOf g) (downOf g) z i ∙ ap (λ x. (x ∷ []) ++ others) (sym e)) (left-all f)
 
   pub first-fits : Fits old q (a ∷ [])
   first-fits = fits-front (a ∷ []) others (first-left .fits)
 
   module _ {row : List ℤ} {p : ℕ} (w : Wrote old q (a ∷ []) row p) where
     others-are : (b : Bool) → twiceOf (g .relation) ≡ b
-        → Left old q (demandsAt g z i) row p (cond b (guardDemand (g .relation) (g .constant) z i true ∷ []) [])
+        → Left old q (demandsAt g z i) row p (cond b (guardDemand (g .relation) (upOf g) (downOf g) z i true ∷ []) [])
     others-are b n =
-        left-as (ap (λ x. cond x (guardDemand (g .relation) (g .constant) z i true ∷ []) []) n)
+        left-as (ap (λ x. cond x (guardDemand (g .relation) (upOf g) (downOf g) z i true ∷ []) []) n)
         (left-next (a ∷ []) others first-left w)
 
     pub guard-once : twiceOf (g .relation) ≡ false → Wrote old q (demandsAt g z i) row p
     guard-once n = left-done (others-are false n)
 
     module _ {b : Demand} (n : twiceOf (g .relation) ≡ true)
-        (d : b ≡ guardDemand (g .relation) (g .constant) z i true) where
+        (d : b ≡ guardDemand (g .relation) (upOf g) (downOf g) z i true) where
       second-left : Left old q (demandsAt g z i) row p (b ∷ [])
       second-left = left-as (ap (λ x. x ∷ []) (sym d)) (others-are true n)
 

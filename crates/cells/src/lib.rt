@@ -9,6 +9,7 @@ ghost use mathlib.Core.List.{[], _∷_, map};
 ghost use Prim.Native.Nat.{_≤_, _<_};
 ghost use lib.IntN.{pos};
 ghost use lib.Seq.{sets};
+ghost use Rattle.table.specs.Step.{upOf, downOf};
 ghost use Rattle.runs.specs.Demand.{ticksOf, plus, guardDemands, moved, startsOf, startDemands};
 ghost use Rattle.cells.specs.Lines.{strictOf, cells, Small};
 ghost use Rattle.cells.specs.Writing.{Fits, Wrote};
@@ -52,19 +53,20 @@ fn put(row: &mut [i64], q: usize, d: Demand) -> usize
     q + 4
 }
 
-// Writes the one or two demands of a guard at moment i, when its clock was last reset at moment z.
-pub fn put_guard(row: &mut [i64], q: usize, guard: Guard, z: usize, i: usize) -> usize
-    requires { ⌜ Fits (now row) q (guardDemands (guard .relation) (guard .constant) z i) ⌝ }
-    ensures { λ r. ⌜ Wrote (now (row .entry)) q (guardDemands (guard .relation) (guard .constant) z i) (now (row .exit)) r ⌝ }
+// Writes the one or two demands of a guard, when its clock was last reset at moment z and is compared with moment e.
+pub fn put_guard(row: &mut [i64], q: usize, guard: Guard, z: usize, e: usize) -> usize
+    requires { ⌜ Fits (now row) q (guardDemands (guard .relation) (upOf guard) (downOf guard) z e) ⌝ }
+    ensures { λ r. ⌜ Wrote (now (row .entry)) q (guardDemands (guard .relation) (upOf guard) (downOf guard) z e) (now (row .exit)) r ⌝ }
 {
     let relation = guard.relation;
-    let constant = guard.constant as u64;
-    let first = constraints::guard_demand(relation, constant, z, i, false);
+    let up = constraints::up_of(guard);
+    let down = constraints::down_of(guard);
+    let first = constraints::guard_demand(relation, up, down, z, e, false);
     let p = put(row, q, first);
     if !constraints::twice(relation) {
         return p;
     }
-    let second = constraints::guard_demand(relation, constant, z, i, true);
+    let second = constraints::guard_demand(relation, up, down, z, e, true);
     put(row, p, second)
 }
 

@@ -13,9 +13,9 @@ use Rattle.paths.specs.Bounds.{SameSize, Room, room-kept, pass-size, Under, Gai
 use Rattle.paths.specs.Code.{Check}
 use Rattle.checks.specs.InParts.{edge, edges}
 
--- no gain and no loss is above 2^22
+-- no gain and no loss is above 4000 ticks of 1031 parts, and one part more
 abbrev pub unit : ℕ
-unit = 4194304
+unit = 4124001
 
 -- A demand in parts whose moments are below N, and whose gain and loss are small.
 pub record Slight (N : ℕ) (d : Demand) : Type 0 where

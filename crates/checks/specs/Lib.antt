@@ -6,5 +6,9 @@ pub mod Turns
 -- of a key, and of one side of a step
 pub mod KeyChecks
 pub mod SideChecks
+pub mod LeadChecks
+-- the guards between two clocks of a step, as a row tells them, and their checks
+pub mod Led
+pub mod LedChecks
 -- of demands of a list in any order
 pub mod Some

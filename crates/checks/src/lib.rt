@@ -1,22 +1,33 @@
 // Checks of demands in parts as difference constraints, over lent times: of one demand, of a key, and of one side of a step.
 use constraints::bit_of;
+use constraints::guard_demand;
+use constraints::twice;
 use last_resets::last_reset;
+use leads::guard_at;
 use paths::relax;
 use runs::Demand;
 use sides::NONE;
 use sweeps::lower_demand;
 use sweeps::upper_demand;
+use table::Guard;
 ghost use mathlib.Core.Path.{_≡_};
 ghost use mathlib.Core.Bool.{_||_};
 ghost use mathlib.Core.List.{[], _∷_};
+ghost use lib.ListN.{length};
 ghost use Prim.Native.Nat.{_+_, _≤_, _<_};
+ghost use Rattle.table.specs.Step.{upOf, downOf};
+ghost use Rattle.runs.specs.Demand.{guardDemands};
+ghost use Rattle.constraints.specs.Pieces.{guardDemand};
+ghost use Rattle.scaling.specs.Constants.{withConstant};
 ghost use Rattle.sides.specs.Sides.{none};
 ghost use Rattle.sides.specs.Tight.{keyDemand, keyDemands};
 ghost use Rattle.last_resets.specs.Distance.{lastOf};
-ghost use Rattle.sweeps.specs.Order.{sideOf};
+ghost use Rattle.leads.specs.Leads.{ledBy};
+ghost use Rattle.sweeps.specs.Order.{sideOf, leadsAt};
 ghost use Rattle.paths.specs.State.{state};
 ghost use Rattle.checks.specs.Checks.{Checkable, Checked};
 ghost use Rattle.checks.specs.SideChecks.{Placed};
+ghost use Rattle.checks.specs.Led.{lastsAt, leadDemands, Led};
 
 // What checks give: whether one has raised a time, and the stamp of the next check.
 pub struct Sweep {
@@ -82,6 +93,102 @@ fn check_key(
     }
     let z = last_reset(distance, total, i, j);
     check(key_demand(upper, key, z, i + 1), time, parent, stamp, w)
+}
+
+// The first or the second demand of a guard between two clocks, with its constant in parts, whose last resets were at moments z and e.
+pub fn lead_demand(g: Guard, constant: u64, z: usize, e: usize, second: bool) -> Demand
+    ensures { λ r. ⌜ r ≡ guardDemand (g .relation) (upOf (withConstant constant g)) (downOf (withConstant constant g)) z e second ⌝ }
+{
+    let relation = g.relation;
+    if g.minus {
+        return guard_demand(relation, 0, constant, z, e, second);
+    }
+    guard_demand(relation, constant, 0, z, e, second)
+}
+
+// The checks of the one or two demands of a guard between two clocks, whose last resets were at moments z and e.
+fn check_pair(
+    g: Guard,
+    constant: u64,
+    z: usize,
+    e: usize,
+    time: &mut [u64],
+    parent: &mut [u64],
+    stamp: &mut [u64],
+    w: Sweep,
+) -> Sweep
+    requires { ⌜ Checkable (guardDemands (g .relation) (upOf (withConstant constant g)) (downOf (withConstant constant g)) z e)
+        (state (now time) (now parent) (now stamp)) (w .stamp) ⌝ }
+    ensures { λ r. ⌜ Checked (guardDemands (g .relation) (upOf (withConstant constant g)) (downOf (withConstant constant g)) z e)
+        (w .raised) (w .stamp)
+        (state (now (time .entry)) (now (parent .entry)) (now (stamp .entry)))
+        (state (now (time .exit)) (now (parent .exit)) (now (stamp .exit))) (r .raised) (r .stamp) ⌝ }
+{
+    let relation = g.relation;
+    let first = lead_demand(g, constant, z, e, false);
+    let swept = check(first, time, parent, stamp, w);
+    if !twice(relation) {
+        return swept;
+    }
+    let second = lead_demand(g, constant, z, e, true);
+    check(second, time, parent, stamp, swept)
+}
+
+// The checks of a guard of the row at step i of `total`, which is step s of its round, if it has a second clock.
+fn check_lead(
+    code: u64,
+    far: &[usize],
+    total: usize,
+    s: usize,
+    i: usize,
+    time: &mut [u64],
+    parent: &mut [u64],
+    stamp: &mut [u64],
+    w: Sweep,
+) -> Sweep
+    requires { ⌜ (length (now far) ≡ 112) × (total ≤ 1024) × (s < 16) × (i ≤ 1024)
+        × Checkable (leadDemands code (i + 1) (lastsAt (now far) total s i)) (state (now time) (now parent) (now stamp)) (w .stamp) ⌝ }
+    ensures { λ r. ⌜ Checked (leadDemands code (i + 1) (lastsAt (now (far .entry)) total s i)) (w .raised) (w .stamp)
+        (state (now (time .entry)) (now (parent .entry)) (now (stamp .entry)))
+        (state (now (time .exit)) (now (parent .exit)) (now (stamp .exit))) (r .raised) (r .stamp) ⌝ }
+{
+    let b = (code / 7 % 7) as usize;
+    if b == 0 {
+        return w;
+    }
+    let a = (code % 7) as usize;
+    let z = last_reset(far[7 * s + a], total, i, a);
+    let e = last_reset(far[7 * s + b], total, i, b);
+    let g = guard_at(code);
+    check_pair(g, code / 490, z, e, time, parent, stamp, w)
+}
+
+// The checks of the guards between two clocks of step i of `total`, which is step s of its round, as the row tells them.
+pub fn check_leads(
+    leads: &[u64],
+    far: &[usize],
+    total: usize,
+    s: usize,
+    i: usize,
+    time: &mut [u64],
+    parent: &mut [u64],
+    stamp: &mut [u64],
+    w: Sweep,
+) -> Sweep
+    requires { ⌜ Led (now leads) (now far) total s i
+        × Checkable (leadsAt (ledBy (now leads)) (now far) total s i) (state (now time) (now parent) (now stamp)) (w .stamp) ⌝ }
+    ensures { λ r. ⌜ Checked (leadsAt (ledBy (now (leads .entry))) (now (far .entry)) total s i) (w .raised) (w .stamp)
+        (state (now (time .entry)) (now (parent .entry)) (now (stamp .entry)))
+        (state (now (time .exit)) (now (parent .exit)) (now (stamp .exit))) (r .raised) (r .stamp) ⌝ }
+{
+    let end = leads[s + 1] as usize;
+    let mut swept = w;
+    let mut k = leads[s] as usize;
+    while k < end {
+        swept = check_lead(leads[18 + k], far, total, s, i, time, parent, stamp, swept);
+        k += 1;
+    }
+    swept
 }
 
 // The checks of one side of step i of `total`, which is step s of its round, clock by clock.

@@ -13,7 +13,8 @@ use Rattle.table.specs.declared.Relation.the-variants.{Under, AtMost, Exactly, 
 use Rattle.table.specs.declared.Table.{Table}
 use Rattle.runs.specs.Run.{copies, zeroed}
 use Rattle.runs.specs.declared.Start.{Start}
-use Rattle.runs.specs.Demand.{guardDemands, guardsDemands, stepsDemands, startDemands, startsOf}
+use Rattle.table.specs.Step.{upOf, downOf, endOf}
+use Rattle.runs.specs.Demand.{guardDemands, demandsAt, guardsDemands, stepsDemands, startDemands, startsOf}
 use Rattle.runs.specs.DemandOrder.{demands-is}
 use Rattle.runs.specs.Copies.{copies-member}
 use Rattle.runs.specs.Tools.{Every, every-nil, every-cons}
@@ -22,23 +23,23 @@ use Rattle.constraints.specs.Rounds.{length-rounds}
 use Rattle.constraints.specs.Partner.{partnersOf, partners-few, starts-number}
 
 -- ---- a guard has at most two
-guard-few : (r : Relation) (c z i : ℕ) → length (guardDemands r c z i) ≤ 2
-guard-few Under c z i = omega arith
-guard-few AtMost c z i = omega arith
-guard-few Exactly c z i = omega arith
-guard-few AtLeast c z i = omega arith
-guard-few Over c z i = omega arith
+guard-few : (r : Relation) (u d z e : ℕ) → length (guardDemands r u d z e) ≤ 2
+guard-few Under u d z e = omega arith
+guard-few AtMost u d z e = omega arith
+guard-few Exactly u d z e = omega arith
+guard-few AtLeast u d z e = omega arith
+guard-few Over u d z e = omega arith
 
-guards-few : (gs : List Guard) (i : ℕ) (z : ℕ → ℕ) → length (guardsDemands gs i z) ≤ 2 * length gs
+pub guards-few : (gs : List Guard) (i : ℕ) (z : ℕ → ℕ) → length (guardsDemands gs i z) ≤ 2 * length gs
 unfolding guardsDemands
 guards-few [] i z = omega arith
 guards-few (g ∷ gs) i z =
-    let one = guardDemands (g .relation) (g .constant) (z (g .clock)) i in
+    let one = demandsAt g i z in
     omega (
       arith,
       length-append one (guardsDemands gs i z),
       guards-few gs i z,
-      guard-few (g .relation) (g .constant) (z (g .clock)) i,
+      guard-few (g .relation) (upOf g) (downOf g) (z (g .clock)) (endOf (g .second) i z),
     )
 
 -- ---- a step one more, and has at most 64 guards

@@ -11,26 +11,26 @@ use Rattle.table.specs.declared.Guard.{Guard}
 use Rattle.table.specs.declared.Relation.{Relation}
 use Rattle.table.specs.declared.Relation.the-variants.{Under, AtMost, Exactly, AtLeast, Over}
 use Rattle.table.specs.declared.Table.{Table}
-use Rattle.runs.specs.Demand.{guardDemands, guardsDemands}
+use Rattle.runs.specs.Demand.{guardDemands, demandsAt, guardsDemands}
 use Rattle.runs.specs.DemandOrder.{guardsDemands-nil, guardsDemands-cons}
 use Rattle.constraints.specs.Pieces.{guardDemand, twiceOf}
 use Rattle.constraints.specs.Demands.{guardsFrom}
 
 -- ---- a guard: the first or only demand, and the second where it has two
-pub guard-once : (r : Relation) (c z i : ℕ) → twiceOf r ≡ false → guardDemands r c z i ≡ guardDemand r c z i false ∷ []
-guard-once Under c z i e = refl
-guard-once AtMost c z i e = refl
-guard-once Exactly c z i e = let b : _≡_ {A = ℕ} 0 1 = cc in absurd (omega arith)
-guard-once AtLeast c z i e = refl
-guard-once Over c z i e = refl
+pub guard-once : (r : Relation) (u d z e : ℕ) → twiceOf r ≡ false → guardDemands r u d z e ≡ guardDemand r u d z e false ∷ []
+guard-once Under u d z e p = refl
+guard-once AtMost u d z e p = refl
+guard-once Exactly u d z e p = let b : _≡_ {A = ℕ} 0 1 = cc in absurd (omega arith)
+guard-once AtLeast u d z e p = refl
+guard-once Over u d z e p = refl
 
-pub guard-twice : (r : Relation) (c z i : ℕ) → twiceOf r ≡ true
-    → guardDemands r c z i ≡ guardDemand r c z i false ∷ guardDemand r c z i true ∷ []
-guard-twice Under c z i e = let b : _≡_ {A = ℕ} 0 1 = cc in absurd (omega arith)
-guard-twice AtMost c z i e = let b : _≡_ {A = ℕ} 0 1 = cc in absurd (omega arith)
-guard-twice Exactly c z i e = refl
-guard-twice AtLeast c z i e = let b : _≡_ {A = ℕ} 0 1 = cc in absurd (omega arith)
-guard-twice Over c z i e = let b : _≡_ {A = ℕ} 0 1 = cc in absurd (omega arith)
+pub guard-twice : (r : Relation) (u d z e : ℕ) → twiceOf r ≡ true
+    → guardDemands r u d z e ≡ guardDemand r u d z e false ∷ guardDemand r u d z e true ∷ []
+guard-twice Under u d z e p = let b : _≡_ {A = ℕ} 0 1 = cc in absurd (omega arith)
+guard-twice AtMost u d z e p = let b : _≡_ {A = ℕ} 0 1 = cc in absurd (omega arith)
+guard-twice Exactly u d z e p = refl
+guard-twice AtLeast u d z e p = let b : _≡_ {A = ℕ} 0 1 = cc in absurd (omega arith)
+guard-twice Over u d z e p = let b : _≡_ {A = ℕ} 0 1 = cc in absurd (omega arith)
 
 -- ---- the guards of step s at moment i: no guard is left
 module _ (t : Table) (s i : ℕ) (z : List ℕ) where
@@ -40,8 +40,7 @@ module _ (t : Table) (s i : ℕ) (z : List ℕ) where
 
   -- one guard, then the others
   pub guards-more : (g : ℕ) (d : Guard) → g < getD (t .ends) (s + 1) 0 → getD (t .ends) (s + 1) 0 ≤ length (t .guards)
-      → guardsFrom t s i z g ≡ guardDemands (getD (t .guards) g d .relation) (getD (t .guards) g d .constant)
-      (getD z (getD (t .guards) g d .clock) 0) i ++ guardsFrom t s i z (g + 1)
+      → guardsFrom t s i z g ≡ demandsAt (getD (t .guards) g d) i (λ j. getD z j 0) ++ guardsFrom t s i z (g + 1)
   unfolding guardsFrom
   guards-more g d l b =
       let e : slice g (getD (t .ends) (s + 1) 0) (t .guards)

@@ -13,7 +13,8 @@ use Rattle.table.specs.declared.Relation.the-variants.{Under, AtMost, Exactly, 
 use Rattle.table.specs.declared.Table.{Table}
 use Rattle.runs.specs.Run.{copies, zeroed}
 use Rattle.runs.specs.declared.Start.{Start}
-use Rattle.runs.specs.Demand.{guardDemands, guardsDemands, stepsDemands, startDemands, startsOf}
+use Rattle.table.specs.Step.{upOf, downOf, endOf}
+use Rattle.runs.specs.Demand.{guardDemands, demandsAt, guardsDemands, stepsDemands, startDemands, startsOf}
 use Rattle.runs.specs.DemandOrder.{demands-is}
 use Rattle.constraints.specs.Pieces.{twiceOf}
 use Rattle.constraints.specs.Demands.{demandsOf}
@@ -27,20 +28,20 @@ unfoldable pub guardsNumber : List Guard → ℕ
 guardsNumber [] = 0
 guardsNumber (g ∷ gs) = guardNumber (g .relation) + guardsNumber gs
 
-guard-number : (r : Relation) (c z i : ℕ) → length (guardDemands r c z i) ≡ guardNumber r
-guard-number Under c z i = refl
-guard-number AtMost c z i = refl
-guard-number Exactly c z i = refl
-guard-number AtLeast c z i = refl
-guard-number Over c z i = refl
+guard-number : (r : Relation) (u d z e : ℕ) → length (guardDemands r u d z e) ≡ guardNumber r
+guard-number Under u d z e = refl
+guard-number AtMost u d z e = refl
+guard-number Exactly u d z e = refl
+guard-number AtLeast u d z e = refl
+guard-number Over u d z e = refl
 
 guards-number : (gs : List Guard) (i : ℕ) (z : ℕ → ℕ) → length (guardsDemands gs i z) ≡ guardsNumber gs
 unfolding guardsDemands guardsNumber
 guards-number [] i z = refl
 guards-number (g ∷ gs) i z =
-    let one = guardDemands (g .relation) (g .constant) (z (g .clock)) i in
+    let one = demandsAt g i z in
     length-append one (guardsDemands gs i z)
-    ∙ λ j. guard-number (g .relation) (g .constant) (z (g .clock)) i j + guards-number gs i z j
+    ∙ λ j. guard-number (g .relation) (upOf g) (downOf g) (z (g .clock)) (endOf (g .second) i z) j + guards-number gs i z j
 
 guards-append : (gs hs : List Guard) → guardsNumber (gs ++ hs) ≡ guardsNumber gs + guardsNumber hs
 unfolding guardsNumber

@@ -9,7 +9,7 @@ use lib.ListN.{getD, set}
 use Rattle.table.specs.declared.Relation.{Relation}
 use Rattle.table.specs.declared.Relation.the-variants.{Under, AtMost, Exactly, AtLeast, Over}
 use Rattle.runs.specs.declared.Demand.{Demand}
-use Rattle.runs.specs.Demand.{plus, minus}
+use Rattle.runs.specs.Demand.{bounded}
 
 -- no clock was reset yet: the last reset of clock j is at moment K + j
 abbrev pub fresh : ℕ → List ℕ
@@ -34,12 +34,12 @@ pub following-on : (s L : ℕ) → (s + 1 ≡ L → ⊥) → followingOf s L ≡
 following-on s L e = ap (λ b. cond b 0 (s + 1)) (ne-eqb (s + 1) L e)
 
 -- the second demand of a guard where it has two, else its only one
-abbrev pub guardDemand : Relation → ℕ → ℕ → ℕ → Bool → Demand
-guardDemand Under c z i second = plus z i c true
-guardDemand AtMost c z i second = plus z i c false
-guardDemand Exactly c z i second = cond second (minus i z c false) (plus z i c false)
-guardDemand AtLeast c z i second = minus i z c false
-guardDemand Over c z i second = minus i z c true
+abbrev pub guardDemand : Relation → ℕ → ℕ → ℕ → ℕ → Bool → Demand
+guardDemand Under u d z e second = bounded z e u d true
+guardDemand AtMost u d z e second = bounded z e u d false
+guardDemand Exactly u d z e second = cond second (bounded e z d u false) (bounded z e u d false)
+guardDemand AtLeast u d z e second = bounded e z d u false
+guardDemand Over u d z e second = bounded e z d u true
 
 -- whether a guard has two demands
 abbrev pub twiceOf : Relation → Bool

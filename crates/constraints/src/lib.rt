@@ -1,12 +1,14 @@
 // What the difference constraints (01: demands) of k rounds of a table are made of: the last resets, and the demands of a guard.
 use runs::Demand;
 use runs::Start;
+use table::Guard;
 use table::Relation;
 ghost use mathlib.Core.Path.{_≡_};
 ghost use mathlib.Core.Bool.{false, cond};
 ghost use mathlib.Core.List.{map};
 ghost use Prim.Native.Nat.{_≤_, _<_};
-ghost use lib.ListN.{length};
+ghost use lib.ListN.{length, getD};
+ghost use Rattle.table.specs.Step.{upOf, downOf, endOf};
 ghost use Rattle.runs.specs.Demand.{plus, startsOf, moved};
 ghost use Rattle.runs.specs.Parts.{bit};
 ghost use Rattle.constraints.specs.Pieces.{fresh, resetOf, followingOf, guardDemand, twiceOf};
@@ -54,21 +56,57 @@ pub fn not_after(from: usize, to: usize) -> Demand
     }
 }
 
-// The first or the second demand of a guard at moment i, when its clock was last reset at moment z.
-pub fn guard_demand(relation: Relation, constant: u64, z: usize, i: usize, second: bool) -> Demand
-    ensures { λ r. ⌜ r ≡ guardDemand relation constant z i second ⌝ }
+// What the constant of a guard adds, and what it takes off, in ticks: one of the two is 0.
+pub fn up_of(guard: Guard) -> u64
+    ensures { λ r. ⌜ r ≡ upOf guard ⌝ }
+{
+    if guard.minus {
+        0
+    } else {
+        guard.constant as u64
+    }
+}
+
+pub fn down_of(guard: Guard) -> u64
+    ensures { λ r. ⌜ r ≡ downOf guard ⌝ }
+{
+    if guard.minus {
+        guard.constant as u64
+    } else {
+        0
+    }
+}
+
+// The moment that a guard's clock is compared with: that of the step, or of the second clock's last reset.
+pub fn end_of(second: usize, i: usize, resets: &[usize]) -> usize
+    requires { ⌜ second < length (now resets) ⌝ }
+    ensures { λ r. ⌜ r ≡ endOf second i (λ j. getD (now (resets .entry)) j 0) ⌝ }
+{
+    if second == 0 { i } else { resets[second] }
+}
+
+// The first or the second demand of a guard with constant up − down, when its clock was last reset at moment z, and is compared with moment e.
+pub fn guard_demand(
+    relation: Relation,
+    up: u64,
+    down: u64,
+    z: usize,
+    e: usize,
+    second: bool,
+) -> Demand
+    ensures { λ r. ⌜ r ≡ guardDemand relation up down z e second ⌝ }
 {
     match relation {
-        Relation::Under => demand(z, i, constant, 0, true),
-        Relation::AtMost => demand(z, i, constant, 0, false),
+        Relation::Under => demand(z, e, up, down, true),
+        Relation::AtMost => demand(z, e, up, down, false),
         Relation::Exactly => {
             if second {
-                return demand(i, z, 0, constant, false);
+                return demand(e, z, down, up, false);
             }
-            demand(z, i, constant, 0, false)
+            demand(z, e, up, down, false)
         },
-        Relation::AtLeast => demand(i, z, 0, constant, false),
-        Relation::Over => demand(i, z, 0, constant, true),
+        Relation::AtLeast => demand(e, z, down, up, false),
+        Relation::Over => demand(e, z, down, up, true),
     }
 }
 

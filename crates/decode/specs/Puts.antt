@@ -1,16 +1,14 @@
 -- What the records of an encoding fill in: the entries of its steps, in order.
 use mathlib.Core.Path.{_≡_, refl, ap, _∙_}
-use mathlib.Core.List.{List, [], _∷_, _++_, append-assoc}
-use Prim.Native.Nat.{ℕ, _+_, _*_, _/_, _%_}
+use mathlib.Core.List.{List, [], _∷_, _++_, append-assoc, List·Memᴰ, List·Memᴰ·head, List·Memᴰ·tail}
+use Prim.Native.Nat.{ℕ, _+_}
 use native.Mathlib.Omega.{arith}
 use lib.ListN.{length, length-append}
-use Rattle.table.specs.declared.Guard.{Guard}
 use Rattle.table.specs.declared.Table.{Table}
 use Rattle.wire.specs.Records.{recordsFrom, records}
-use Rattle.records.specs.Rules.{relationOf}
 use Rattle.wire.specs.Listing.{Entry, guard, reset, Listing}
-use Rattle.format.specs.Encode.{relationCode, entryBytes, stepBytes, stepsBytes, encode}
-use Rattle.format.specs.Shapes.{relation-back, constant-back}
+use Rattle.format.specs.Encode.{entryBytes, stepBytes, stepsBytes, encode, LegalEntry, LegalSteps, Legal}
+use Rattle.format.specs.Shapes.{guard-back}
 use Rattle.filling.specs.Filling.{empty, putHead, putGuard, putReset, putStep}
 use Rattle.decode.specs.Fill.{put, filled}
 
@@ -28,47 +26,38 @@ unfoldable pub putSteps : List (List Entry) → Table → Table
 putSteps [] t = t
 putSteps (s ∷ ss) t = putSteps ss (putStep (putEntries s t))
 
--- a guard is read back from its bytes
-guard-coded : (g : Guard)
-    → record {
-      clock = g .clock;
-      relation = relationOf (relationCode (g .relation));
-      constant = g .constant % 256 + g .constant / 256 * 256;
-    } ≡ g
-guard-coded g =
-    λ i. record { clock = g .clock; relation = relation-back (g .relation) i; constant = constant-back (g .constant) i }
-
 -- a table by value, filled in from the bytes that begin at a place
 abbrev filledFrom : Table → ℕ → List ℕ → Table
 filledFrom t at bytes = filled t (recordsFrom 0 at bytes)
 
 -- the record of an entry, the records of a step, and those of all steps
-filled-entry : (e : Entry) (t : Table) (at : ℕ) (rest : List ℕ)
+filled-entry : (n : ℕ) (e : Entry) (t : Table) (at : ℕ) (rest : List ℕ) → LegalEntry n e
     → filledFrom t at (entryBytes e ++ rest) ≡ filledFrom (putEntry e t) (at + length (entryBytes e)) rest
 unfolding recordsFrom filled put
-filled-entry (guard g) t at rest =
-    ap (λ g′. filledFrom (putGuard g′ t) (at + 1 + 1 + 1 + 1 + 1) rest) (guard-coded g)
+filled-entry n (guard g) t at rest legal =
+    ap (λ g′. filledFrom (putGuard g′ t) (at + 1 + 1 + 1 + 1 + 1) rest) (guard-back g (legal .3))
     ∙ ap (λ n. filledFrom (putGuard g t) n rest) (omega arith)
-filled-entry (reset j) t at rest = ap (λ n. filledFrom (putReset j t) n rest) (omega arith)
+filled-entry n (reset j) t at rest legal = ap (λ n. filledFrom (putReset j t) n rest) (omega arith)
 
-filled-step : (s : List Entry) (t : Table) (at : ℕ) (rest : List ℕ)
+filled-step : (n : ℕ) (s : List Entry) (t : Table) (at : ℕ) (rest : List ℕ) → ((e : Entry) → List·Memᴰ e s → LegalEntry n e)
     → filledFrom t at (stepBytes s ++ rest) ≡ filledFrom (putStep (putEntries s t)) (at + length (stepBytes s)) rest
 unfolding recordsFrom filled put putEntries stepBytes
-filled-step [] t at rest = refl
-filled-step (e ∷ es) t at rest =
+filled-step n [] t at rest legal = refl
+filled-step n (e ∷ es) t at rest legal =
     ap (filledFrom t at) (append-assoc (entryBytes e) (stepBytes es) rest)
-    ∙ filled-entry e t at (stepBytes es ++ rest)
-    ∙ filled-step es (putEntry e t) (at + length (entryBytes e)) rest
+    ∙ filled-entry n e t at (stepBytes es ++ rest) (legal e (List·Memᴰ·head refl))
+    ∙ filled-step n es (putEntry e t) (at + length (entryBytes e)) rest (λ f m. legal f (List·Memᴰ·tail m))
     ∙ ap (λ n. filledFrom (putStep (putEntries es (putEntry e t))) n rest)
     (omega (arith, length-append (entryBytes e) (stepBytes es)))
 
-filled-steps : (ss : List (List Entry)) (t : Table) (at : ℕ) → filledFrom t at (stepsBytes ss) ≡ putSteps ss t
+filled-steps : (n : ℕ) (ss : List (List Entry)) (t : Table) (at : ℕ) → LegalSteps n ss → filledFrom t at (stepsBytes ss) ≡ putSteps ss t
 unfolding recordsFrom filled put putSteps stepsBytes
-filled-steps [] t at = refl
-filled-steps (s ∷ ss) t at =
-    filled-step s t at (stepsBytes ss) ∙ filled-steps ss (putStep (putEntries s t)) (at + length (stepBytes s))
+filled-steps n [] t at legal = refl
+filled-steps n (s ∷ ss) t at legal =
+    filled-step n s t at (stepsBytes ss) (legal s (List·Memᴰ·head refl) .entries)
+    ∙ filled-steps n ss (putStep (putEntries s t)) (at + length (stepBytes s)) (λ x m. legal x (List·Memᴰ·tail m))
 
--- the records of a table's encoding fill in its head and its steps
-pub filled-written : (l : Listing) → filled empty (records (encode l)) ≡ putSteps (l .steps) (putHead (l .clocks) empty)
+-- the records of a legal table's encoding fill in its head and its steps
+pub filled-written : (l : Listing) → Legal l → filled empty (records (encode l)) ≡ putSteps (l .steps) (putHead (l .clocks) empty)
 unfolding recordsFrom filled put encode
-filled-written l = filled-steps (l .steps) (putHead (l .clocks) empty) (0 + 1 + 1)
+filled-written l legal = filled-steps (l .clocks) (l .steps) (putHead (l .clocks) empty) (0 + 1 + 1) (legal .each)

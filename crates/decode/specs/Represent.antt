@@ -105,6 +105,6 @@ represents l t legal h =
 pub filled-encoded : (l : Listing) → Legal l → Represents (filled empty (records (encode l))) l
 unfolding guardCount
 filled-encoded l legal =
-    rw (filled-written l)
+    rw (filled-written l legal)
     (represents l _ legal
     (holds-steps (legal .clocks-few) (l .steps) (holds-head (l .clocks)) (λ s m. legal .each s m .entries) (omega arith) (omega arith)))

@@ -27,7 +27,9 @@ fn guard_at(bytes: &[u8], at: usize) -> Guard
     let high = byte_at(bytes, at + 4);
     Guard {
         clock: clock as u8,
+        second: 0,
         relation,
+        minus: false,
         constant: (low + high * 256) as u16,
     }
 }

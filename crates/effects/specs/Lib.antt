@@ -15,6 +15,7 @@ pub mod Whole
 pub mod WholeStep
 pub mod WholeJoin
 -- its entries are in range
+pub mod Sums
 pub mod Slide
 pub mod Range
 -- what a program that makes effects says of steps

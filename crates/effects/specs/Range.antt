@@ -1,6 +1,7 @@
--- The entries of an effect are none, or within 4001 ticks for each step and for the start; those among the vertices of
--- the configuration before are within 4001 ticks, however many steps there are.
+-- The entries of an effect are none, or within 4001 ticks for each step and for each of the seven vertices before; those among these are
+-- within seven times 4001 ticks, however many steps there are.
 use mathlib.Core.Path.{_≡_, refl}
+use mathlib.Core.Logic.{inl, inr}
 use mathlib.Core.List.{List}
 use Prim.Native.Nat.{ℕ, zero, suc, _+_, _*_, _≤_, _<_}
 use native.Mathlib.Omega.{arith, by-contra}
@@ -15,11 +16,11 @@ use Rattle.zones.specs.Matrix.{Matrix, Solution}
 use Rattle.zones.specs.Weight.{Spans, Within}
 use Rattle.zones.specs.Extend.{solve}
 use Rattle.effects.specs.Describes.{past, Scaled, Describes, tightest}
-use Rattle.effects.specs.Slide.{StepsIn, Clear, beyond, gap, slide, slide-low, slide-high, slid}
+use Rattle.effects.specs.Slide.{StepsIn, AllIn, Clear, beyond, Level, level, gap, slide, slide-low, slide-high, slid}
 
 -- The range of the entries among the vertices of the configuration before.
 abbrev pub leftRange : ℕ
-leftRange = 4001
+leftRange = 28007
 
 module _ (σ : List Step) (fair : Fairs σ) (some-step : 0 < length σ) where
   -- ---- Two values far apart have a gap between them
@@ -27,23 +28,31 @@ module _ (σ : List Step) (fair : Fairs σ) (some-step : 0 < length σ) where
   -- Where the values at a and b are more than n gaps apart, there is one between them.
   Finds : ℕ → ℕ → ℕ → Type 0
   Finds n a b = (P : ℕ) (x : ℕ → ℕ) → 0 < P → Steps P σ x (past x) → x a + n * (4001 * P + 1) < x b
-      → (t : ℕ) × (x a ≤ t) × (t < x b) × StepsIn P (Clear (4001 * P + 1) t) σ x (past x)
+      → (t : ℕ) × (x a ≤ t) × (t < x b) × StepsIn P (Clear (4001 * P + 1) t) σ x (past x) × AllIn (Clear (4001 * P + 1) t) x
 
-  -- One gap can be filled by each step, and one by the start;
-  find : (a b : ℕ) → Finds (suc (length σ)) a b
+  -- One gap can be filled by each step, and one by each vertex before;
+  find : (a b : ℕ) → Finds (7 + length σ) a b
   unfolding Finds
   find a b P x p r h =
-      let g = gap P (4001 * P + 1) (x a) σ x (past x) r in (g .at, g .low, omega (arith, g .high), g .clear)
+      let g = gap P (4001 * P + 1) (x a) σ x (past x) (steps-old P σ some-step r) r in
+      (g .0 .at, g .0 .low, omega (arith, g .0 .high), g .1, g .0 .clear)
 
-  -- before the start, by nothing.
-  find-left : (a b : ℕ) → b < 7 → Finds 1 a b
+  -- before the start, by these alone.
+  find-left : (a b : ℕ) → b < 7 → Finds 7 a b
   unfolding Finds
-  find-left a b l P x p r h = (
-    x a,
-    omega arith,
-    omega arith,
-    beyond P (4001 * P + 1) (x a) σ (omega (arith, steps-old P σ some-step r b l)) r,
-  )
+  find-left a b l P x p r h = go (level (4001 * P + 1) (x a) x)
+    where
+      go : Level (4001 * P + 1) 7 (x a) x
+          → (t : ℕ) × (x a ≤ t) × (t < x b) × StepsIn P (Clear (4001 * P + 1) t) σ x (past x) × AllIn (Clear (4001 * P + 1) t) x
+      go g = pick (g .clear 0 (omega arith))
+        where
+          before : g .at < x b
+          before = omega (arith, g .high)
+
+          pick : Clear (4001 * P + 1) (g .at) (x 0)
+              → (t : ℕ) × (x a ≤ t) × (t < x b) × StepsIn P (Clear (4001 * P + 1) t) σ x (past x) × AllIn (Clear (4001 * P + 1) t) x
+          pick (inl m) = absurd (omega (arith, before, steps-old P σ some-step r b l))
+          pick (inr m) = (g .at, g .low, before, beyond P (4001 * P + 1) (g .at) σ m r, g .clear)
 
   -- A run in which the values at a and b are at most n gaps and k parts apart.
   abbrev Near : (P n a b k : ℕ) → Type 0
@@ -58,9 +67,9 @@ module _ (σ : List Step) (fair : Fairs σ) (some-step : 0 < length σ) where
       go : Dec (x b ≤ x a + n * (4001 * P + 1) + k) → Near P n a b k
       go (yes l) = (x, r, l)
       go (no l) =
-          let (t, low, high, clear) = f P x p r (omega arith) in (
+          let (t, low, high, clear, all) = f P x p r (omega arith) in (
             (λ c. slide t 0 (x c)),
-            slid P t 0 σ p fair clear,
+            slid P t 0 σ p fair all clear,
             omega (arith, slide-low t 0 (x a) low, slide-high t 0 (x b) high),
           )
 
@@ -107,7 +116,7 @@ module _ (σ : List Step) (fair : Fairs σ) (some-step : 0 < length σ) where
       unfolding Finds
       near f P x p r = by-contra (x b) (x a + 4001 * n * P) (λ k.
           let t = f R y pos (steps-affine P (suc n) 0 (omega arith) r) (omega (arith, mul-le-mul-left (suc n) k)) in
-          broken (t .0) (t .1) (t .2) (t .3))
+          broken (t .0) (t .1) (t .2) (t .3) (t .4))
         where
           R : ℕ
           R = suc n * P
@@ -121,11 +130,11 @@ module _ (σ : List Step) (fair : Fairs σ) (some-step : 0 < length σ) where
           T : ℕ
           T = y a + half e * R + 1
 
-          broken : (t : ℕ) → y a ≤ t → t < y b → StepsIn R (Clear (4001 * R + 1) t) σ y (past y) → ⊥
-          broken t l h c = omega (arith, meets .holds, slide-low t T (y a) l, slide-high t T (y b) h)
+          broken : (t : ℕ) → y a ≤ t → t < y b → StepsIn R (Clear (4001 * R + 1) t) σ y (past y) → AllIn (Clear (4001 * R + 1) t) y → ⊥
+          broken t l h c o = omega (arith, meets .holds, slide-low t T (y a) l, slide-high t T (y b) h)
             where
               meets : Sat R (some e z) (slide t T (y a)) (slide t T (y b))
-              meets = rw is at (d .sound R (λ c. slide t T (y c)) pos (slid R t T σ pos fair c) a b ha hb)
+              meets = rw is at (d .sound R (λ c. slide t T (y c)) pos (slid R t T σ pos fair o c) a b ha hb)
 
       high : Finds n a b → half e ≤ z + 4001 * n
       high f = omega (arith, below .le)
@@ -144,10 +153,10 @@ module _ (σ : List Step) (fair : Fairs σ) (some-step : 0 < length σ) where
       go none is = tt
       go (some e z) is = (low M d n a b ha hb e z is g, high M d n a b ha hb e z is f)
 
-  -- Every entry is within 4001 ticks for each step and for the start,
-  pub range : (M : Matrix) → Describes σ M → (a b : ℕ) → a < 14 → b < 14 → Within (4001 * suc (length σ)) (M a b)
-  range M d a b ha hb = within M d (suc (length σ)) a b ha hb (find a b) (find b a)
+  -- Every entry is within 4001 ticks for each step and for each vertex before,
+  pub range : (M : Matrix) → Describes σ M → (a b : ℕ) → a < 14 → b < 14 → Within (4001 * (7 + length σ)) (M a b)
+  range M d a b ha hb = within M d (7 + length σ) a b ha hb (find a b) (find b a)
 
   -- and those of the left part within their range.
   pub range-left : (M : Matrix) → Describes σ M → (a b : ℕ) → a < 7 → b < 7 → Within leftRange (M a b)
-  range-left M d a b ha hb = within M d 1 a b (omega arith) (omega arith) (find-left a b hb) (find-left b a ha)
+  range-left M d a b ha hb = within M d 7 a b (omega arith) (omega arith) (find-left a b hb) (find-left b a ha)

@@ -6,14 +6,14 @@ use mathlib.Core.Bool.{Bool, true, false}
 use mathlib.Core.List.{List, [], _∷_, _++_, List·Memᴰ}
 use Prim.Native.Nat.{ℕ, zero, suc, _+_, _*_, _-_, _≤_, _<_}
 use native.Mathlib.Omega.{arith}
-use Rattle.table.specs.Step.{Step, resets, Fair}
+use Rattle.table.specs.Step.{Step, resets, upOf, downOf, up-most, down-most, endOf, Fair}
 use Rattle.table.specs.declared.Guard.{Guard}
 use Rattle.table.specs.declared.Relation.{Relation}
 use Rattle.table.specs.declared.Relation.the-variants.{Under, AtMost, Exactly, AtLeast, Over}
 use Rattle.runs.specs.declared.Demand.{Demand}
-use Rattle.runs.specs.Demand.{Holds, plus, guardDemands, guardsDemands}
+use Rattle.runs.specs.Demand.{Holds, plus, guardDemands, demandsAt, guardsDemands}
 use Rattle.runs.specs.Satisfies.{Satisfies, guards-satisfies}
-use Rattle.runs.specs.Steps.{Met}
+use Rattle.runs.specs.Steps.{MetBy, end-map}
 use Rattle.runs.specs.Tools.{Every, every-nil, every-cons, every-append}
 use Rattle.zones.specs.Matrix.{Solves}
 use Rattle.effects.specs.Demands.{matrixOf, matrix-is, each, every-each}
@@ -40,7 +40,7 @@ stepDemands w s = plus w 0 0 false ∷ (each (w - 1) (clockDemands w s) ++ guard
 pub record Parts (w P : ℕ) (x : ℕ → ℕ) (s : Step) : Type 0 where
   pub later : x 0 ≤ x w
   pub old : (j : ℕ) → 0 < j → j < w → x j ≤ x 0
-  pub guarded : (g : Guard) → List·Memᴰ g (s .guards) → Met (g .relation) (g .constant * P) (x (g .clock)) (x w)
+  pub guarded : (g : Guard) → List·Memᴰ g (s .guards) → MetBy P g x (x w)
   pub reset : (j : ℕ) → 0 < j → j < w → resets s j ≡ true → x (w + j) ≡ x w
   pub kept : (j : ℕ) → 0 < j → j < w → resets s j ≡ false → x (w + j) ≡ x j
 
@@ -80,7 +80,7 @@ module _ (P : ℕ) (x : ℕ → ℕ) where
         there h = record {
           later = omega (arith, k .0 .holds);
           old = λ j p b. clock j p b .0;
-          guarded = guards-satisfies P x (s .guards) w (λ j. j) .1 (l .1);
+          guarded = λ g i. rw (end-map x (g .second) w (λ j. j)) (guards-satisfies P x (s .guards) w (λ j. j) .1 (l .1) g i);
           reset = λ j p b e. omega (arith, equal-is w (w + j) .0 (rw e at (clock j p b .1)));
           kept = λ j p b e. omega (arith, equal-is j (w + j) .0 (rw e at (clock j p b .1)));
         }
@@ -100,7 +100,7 @@ module _ (P : ℕ) (x : ℕ → ℕ) where
             every-cons (Holds P x) _ _ .1 (
               record { holds = omega (arith, h .later) },
               every-append (Holds P x) (each (w - 1) (clockDemands w s)) _ .1
-                  (clocks .1 clock, guards-satisfies P x (s .guards) w (λ j. j) .0 (h .guarded)),
+                  (clocks .1 clock, guards-satisfies P x (s .guards) w (λ j. j) .0 (λ g i. rw (← end-map x (g .second) w (λ j. j)) (h .guarded g i))),
             )
           where
             clock : (j : ℕ) → 0 < j → j ≤ w - 1 → Satisfies P x (clockDemands w s j)
@@ -121,7 +121,7 @@ pub record Short (N : ℕ) (d : Demand) : Type 0 where
 
 -- The clocks of a step are among 1 to w - 1: its guards are on these, and it resets no other.
 pub record Uses (w : ℕ) (s : Step) : Type 0 where
-  pub guards : (g : Guard) → List·Memᴰ g (s .guards) → g .clock < w
+  pub guards : (g : Guard) → List·Memᴰ g (s .guards) → (g .clock < w) × (g .second < w)
   pub resets : (j : ℕ) → w ≤ j → j < 7 → resets s j ≡ false
 
 module _ (w : ℕ) where
@@ -135,37 +135,48 @@ module _ (w : ℕ) where
   reset-short true j l = two (omega arith) (omega arith)
   reset-short false j l = two (omega arith) (omega arith)
 
-  guard-short : (r : Relation) (j c : ℕ) → j < w → c ≤ 4000 → Every (Short (w + w)) (guardDemands r c j w)
-  guard-short Under j c l h = one (omega arith)
-  guard-short AtMost j c l h = one (omega arith)
-  guard-short Exactly j c l h = two (omega arith) (omega arith)
-  guard-short AtLeast j c l h = one (omega arith)
-  guard-short Over j c l h = one (omega arith)
+  guard-short : (r : Relation) (j e u d : ℕ) → j < w → e < w + w → u ≤ 4000 → d ≤ 4000 → Every (Short (w + w)) (guardDemands r u d j e)
+  guard-short Under j e u d l m h k = one (omega arith)
+  guard-short AtMost j e u d l m h k = one (omega arith)
+  guard-short Exactly j e u d l m h k = two (omega arith) (omega arith)
+  guard-short AtLeast j e u d l m h k = one (omega arith)
+  guard-short Over j e u d l m h k = one (omega arith)
 
-  guards-short : (gs : List Guard) → Every (λ g. (g .clock < w) × (g .constant ≤ 4000)) gs
-      → Every (Short (w + w)) (guardsDemands gs w (λ j. j))
+  -- clocks of w, and a small constant
+  abbrev Small : Guard → Type 0
+  Small g = (g .clock < w) × (g .second < w) × (g .constant ≤ 4000)
+
+  end-short : (j : ℕ) → 0 < w → j < w → endOf j w (λ j. j) < w + w
+  unfolding endOf
+  end-short zero p l = omega arith
+  end-short (suc j) p l = omega arith
+
+  guards-short : 0 < w → (gs : List Guard) → Every Small gs → Every (Short (w + w)) (guardsDemands gs w (λ j. j))
   unfolding guardsDemands
-  guards-short [] h = every-nil (Short (w + w))
-  guards-short (g ∷ gs) h =
-      let k = every-cons (λ g. (g .clock < w) × (g .constant ≤ 4000)) g gs .0 h in
-      every-append (Short (w + w)) (guardDemands (g .relation) (g .constant) (g .clock) w) _ .1
-      (guard-short (g .relation) (g .clock) (g .constant) (k .0 .0) (k .0 .1), guards-short gs (k .1))
+  guards-short p [] h = every-nil (Short (w + w))
+  guards-short p (g ∷ gs) h =
+      let k = every-cons Small g gs .0 h in
+      every-append (Short (w + w)) (demandsAt g w (λ j. j)) _ .1 (
+        guard-short (g .relation) (g .clock) (endOf (g .second) w (λ j. j)) (upOf g) (downOf g) (k .0 .0) (end-short (g .second) p (k .0 .1))
+            (omega (arith, k .0 .2, up-most g)) (omega (arith, k .0 .2, down-most g)),
+        guards-short p gs (k .1),
+      )
 
-  pub step-short : 0 < w → (s : Step) → Fair s → ((g : Guard) → List·Memᴰ g (s .guards) → g .clock < w)
+  pub step-short : 0 < w → (s : Step) → Fair s → ((g : Guard) → List·Memᴰ g (s .guards) → (g .clock < w) × (g .second < w))
       → Every (Short (w + w)) (stepDemands w s)
   unfolding stepDemands
   step-short p s f u =
       every-cons (Short (w + w)) _ _ .1 (
         omega arith,
         every-append (Short (w + w)) (each (w - 1) (clockDemands w s)) _ .1
-            (every-each (Short (w + w)) (clockDemands w s) (w - 1) .1 clocks, guards-short (s .guards) tests),
+            (every-each (Short (w + w)) (clockDemands w s) (w - 1) .1 clocks, guards-short p (s .guards) tests),
       )
     where
       clocks : (j : ℕ) → 0 < j → j ≤ w - 1 → Every (Short (w + w)) (clockDemands w s j)
       clocks j q l = every-cons (Short (w + w)) _ _ .1 (omega arith, reset-short (resets s j) j (omega arith))
 
-      tests : Every (λ g. (g .clock < w) × (g .constant ≤ 4000)) (s .guards)
-      tests g i = (u g i, f .guards g i .small)
+      tests : Every Small (s .guards)
+      tests g i = (u g i .0, u g i .1, f .guards g i .small)
 
 -- ---- With all seven vertices of a configuration they say that the step is a move
 
@@ -193,4 +204,4 @@ pub raw-is : (s : Step) → Fair s → (P : ℕ) (x : ℕ → ℕ) → 0 < P →
 raw-is s f P x p = Iff·trans (matrix-is 14 P x p (stepDemands 7 s) inside) (Iff·trans (step-is P x 7 s) (moves-is P x s))
   where
     inside : Every (λ d. (d .from < 14) × (d .to < 14)) (stepDemands 7 s)
-    inside d i = let h = step-short 7 (omega arith) s f (λ g m. f .guards g m .last) d i in (h .from, h .to)
+    inside d i = let h = step-short 7 (omega arith) s f (λ g m. (f .guards g m .last, f .guards g m .second)) d i in (h .from, h .to)

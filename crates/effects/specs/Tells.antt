@@ -2,7 +2,7 @@
 use mathlib.Core.Path.{_≡_}
 use mathlib.Core.Bool.{Bool, true, false}
 use mathlib.Core.List.{List}
-use Prim.Native.Nat.{ℕ, suc, _*_, _^_, _≤_, _<_}
+use Prim.Native.Nat.{ℕ, _+_, suc, _*_, _^_, _≤_, _<_}
 use native.Mathlib.Omega.{arith}
 use lib.ListN.{length}
 use Rattle.table.specs.Step.{Step, Fairs}
@@ -40,5 +40,5 @@ pub record Sized (σ : List Step) : Type 0 where
 -- Their effect lies in the range that joining asks for.
 pub effect-within : {σ : List Step} {M : Matrix} → Sized σ → Describes σ M → AllWithin 14 (2 ^ 52) M
 effect-within {σ} {M} s d a b ha hb =
-    within-wider (4001 * suc (length σ)) (2 ^ 52) _ (omega (arith, s .few))
+    within-wider (4001 * (7 + length σ)) (2 ^ 52) _ (omega (arith, s .few))
     (range σ (s .fair) (s .some) M d a b ha hb)

@@ -2,13 +2,14 @@
 use mathlib.Core.Path.{_≡_, ap, sym, _∙_}
 use mathlib.Core.Logic.{_↔_}
 use mathlib.Core.Bool.{Bool, true, false}
-use mathlib.Core.List.{[], _∷_}
+use mathlib.Core.List.{[], _∷_, List·Memᴰ}
 use Prim.Native.Nat.{ℕ, zero, suc, _+_, _%_, _-_, _≤_, _<_}
 use native.Mathlib.Omega.{arith}
 use native.Mathlib.Decide.{decLt}
-use Rattle.table.specs.Step.{Step, resets, Fair}
+use Rattle.table.specs.Step.{Step, resets, endOf, Fair}
+use Rattle.table.specs.declared.Guard.{Guard}
 use Rattle.runs.specs.Satisfies.{Satisfies}
-use Rattle.runs.specs.Steps.{move}
+use Rattle.runs.specs.Steps.{move, end-equal}
 use Rattle.zones.specs.Matrix.{Matrix}
 use Rattle.zones.specs.Closure.{Canonical, canonical-for}
 use Rattle.effects.specs.Describes.{Describes, NoRun}
@@ -32,11 +33,14 @@ module _ (w : ℕ) (side : Side w) (s : Step) (u : Uses w s) where
       now : x (back w w) ≡ x 7
       now = let e : w + 0 ≡ w = omega arith in rw e at (right 0)
 
+      end : (g : Guard) → List·Memᴰ g (s .guards) → endOf (g .second) (x (back w w)) (λ v. x (back w v)) ≡ endOf (g .second) (x 7) x
+      end g i = end-equal (g .second) _ _ (λ v. x (back w v)) x now (λ p. left (g .second) (u .guards g i .1))
+
       there : Parts w P (λ v. x (back w v)) s → Kept w 14 x → Moves s P x
       there h k = record {
         later = omega (arith, h .later, left 0 (side .0), now);
         old = λ j l. old j l (decLt j w);
-        guarded = λ g i. rw (left (g .clock) (u .guards g i), now) at (h .guarded g i);
+        guarded = λ g i. rw (left (g .clock) (u .guards g i .0), end g i) at (h .guarded g i);
         reset = λ j p l e. reset j p l e (decLt j w);
         kept = λ j p l e. kept j p l e (decLt j w);
       }
@@ -62,7 +66,7 @@ module _ (w : ℕ) (side : Side w) (s : Step) (u : Uses w s) where
       parts m = record {
         later = omega (arith, m .later, left 0 (side .0), now);
         old = λ j p l. omega (arith, m .old j (omega arith), left j l, left 0 (side .0));
-        guarded = λ g i. rw (left (g .clock) (u .guards g i), now) (m .guarded g i);
+        guarded = λ g i. rw (left (g .clock) (u .guards g i .0), end g i) (m .guarded g i);
         reset = λ j p l e. omega (arith, m .reset j p (omega arith) e, right j, now);
         kept = λ j p l e. omega (arith, m .kept j p (omega arith) e, right j, left j l);
       }

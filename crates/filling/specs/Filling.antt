@@ -8,7 +8,7 @@ use Rattle.table.specs.declared.Relation.the-variants.{Under}
 use Rattle.table.specs.declared.Table.{Table}
 
 abbrev pub noGuard : Guard
-noGuard = record { clock = 0; relation = Under; constant = 0 }
+noGuard = record { clock = 0; second = 0; relation = Under; minus = false; constant = 0 }
 
 -- no step yet
 unfoldable pub empty : Table

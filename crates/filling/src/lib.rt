@@ -31,7 +31,9 @@ pub fn empty_table() -> Table
 {
     let none = Guard {
         clock: 0,
+        second: 0,
         relation: Relation::Under,
+        minus: false,
         constant: 0,
     };
     Table {

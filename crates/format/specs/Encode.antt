@@ -6,6 +6,7 @@ use lib.ListN.{length}
 use Rattle.basics.specs.Distinct.{Distinct}
 use Rattle.table.specs.declared.Relation.{Relation}
 use Rattle.table.specs.declared.Relation.the-variants.{Under, AtMost, Exactly, AtLeast, Over}
+use Rattle.table.specs.Step.{Plain}
 use Rattle.wire.specs.Listing.{Entry, guard, reset, Listing, guardsOf, resetsOf}
 
 abbrev pub relationCode : Relation → ℕ
@@ -41,7 +42,7 @@ guardCount (s ∷ ss) = length (guardsOf s) + guardCount ss
 
 -- an entry that a table of n clocks may have
 abbrev pub LegalEntry : ℕ → Entry → Type 0
-LegalEntry n (guard g) = (1 ≤ g .clock) × (g .clock ≤ n) × (g .constant ≤ 4000)
+LegalEntry n (guard g) = (1 ≤ g .clock) × (g .clock ≤ n) × (g .constant ≤ 4000) × Plain g
 LegalEntry n (reset j) = (1 ≤ j) × (j ≤ n)
 
 -- a step that it may have: of such entries, and no clock is reset twice

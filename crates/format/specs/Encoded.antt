@@ -1,7 +1,7 @@
 -- Every table within the limits is accepted, counted right, and read back as it was written.
 use mathlib.Core.Path.{_≡_, refl, sym, _∙_, ap, ap₂}
 use mathlib.Core.Bool.{true, false}
-use mathlib.Core.List.{List, [], _∷_, _++_, append-assoc, append-nil}
+use mathlib.Core.List.{List, [], _∷_, _++_, append-assoc, append-nil, List·Memᴰ}
 use mathlib.Core.List.List·Memᴰ.{List·Memᴰ·head, List·Memᴰ·tail}
 use Prim.Native.Nat.{ℕ, suc, _+_, _≤_, _<_}
 use native.Mathlib.Omega.{arith}
@@ -178,21 +178,23 @@ check-steps len (s ∷ ss) t at later clocks legal none some few room =
     ∙ ap₂ (read.Counted (t .clocks)) (omega arith) (omega arith))
 
 -- Steps are read back, after some entries of the first.
-steps-step : (rest : List ℕ) (ss : List (List Entry)) → ((p : ℕ) → stepsIn [] (recordsFrom 0 p rest) ≡ ss)
-    → (begun es : List Entry) (at : ℕ)
+steps-step : (n : ℕ) (rest : List ℕ) (ss : List (List Entry)) → ((p : ℕ) → stepsIn [] (recordsFrom 0 p rest) ≡ ss)
+    → (begun es : List Entry) (at : ℕ) → ((e : Entry) → List·Memᴰ e es → LegalEntry n e)
     → stepsIn begun (recordsFrom 0 at (stepBytes es ++ rest)) ≡ (begun ++ es) ∷ ss
 unfolding recordsFrom stepsIn stepBytes
-steps-step rest ss then begun [] at = ap₂ _∷_ (sym (append-nil begun)) (then (at + 1))
-steps-step rest ss then begun (e ∷ es) at =
+steps-step n rest ss then begun [] at legal = ap₂ _∷_ (sym (append-nil begun)) (then (at + 1))
+steps-step n rest ss then begun (e ∷ es) at legal =
     ap (stepsIn begun) (records-more at e es rest)
-    ∙ steps-entry begun at e (recordsFrom 0 (at + length (entryBytes e)) (stepBytes es ++ rest))
-    ∙ steps-step rest ss then (begun ++ (e ∷ [])) es (at + length (entryBytes e))
+    ∙ steps-entry begun n at e (recordsFrom 0 (at + length (entryBytes e)) (stepBytes es ++ rest)) (legal e (List·Memᴰ·head refl))
+    ∙ steps-step n rest ss then (begun ++ (e ∷ [])) es (at + length (entryBytes e)) (λ f m. legal f (List·Memᴰ·tail m))
     ∙ ap (λ s. s ∷ ss) (append-assoc begun (e ∷ []) es)
 
-steps-back : (ss : List (List Entry)) (at : ℕ) → stepsIn [] (recordsFrom 0 at (stepsBytes ss)) ≡ ss
+steps-back : (n : ℕ) (ss : List (List Entry)) → LegalSteps n ss → (at : ℕ) → stepsIn [] (recordsFrom 0 at (stepsBytes ss)) ≡ ss
 unfolding recordsFrom stepsIn stepsBytes
-steps-back [] at = refl
-steps-back (s ∷ ss) at = steps-step (stepsBytes ss) ss (steps-back ss) [] s at
+steps-back n [] legal at = refl
+steps-back n (s ∷ ss) legal at =
+    steps-step n (stepsBytes ss) ss (steps-back n ss (λ x m. legal x (List·Memᴰ·tail m))) [] s at
+    (legal s (List·Memᴰ·head refl) .entries)
 
 -- Every table within the limits is accepted, counted right, and read back as it was written.
 pub read-encoded : (l : Listing) → Legal l
@@ -205,5 +207,5 @@ read-encoded l h = (
       ∙ check-steps _ (l .steps) (headTally (l .clocks)) 2 (omega arith) (h .clocks-few) (h .each) refl
       (omega arith) (omega arith) (omega arith)
       ∙ ap₂ (read.Counted (l .clocks)) (omega arith) (omega arith),
-  λ i. record { clocks = l .clocks; steps = steps-back (l .steps) 2 i },
+  λ i. record { clocks = l .clocks; steps = steps-back (l .clocks) (l .steps) (h .each) 2 i },
 )

@@ -224,7 +224,7 @@ module _ (len n L g : ℕ) where
       subst (λ x. Ended t begun (x ∷ rs)) (sym shape)
       (subst₂ (λ bs ss. Ends t begun bs ss n L g)
       (sym (bytes-entry (r .place) e rs))
-      (sym (steps-entry begun (r .place) e rs))
+      (sym (steps-entry begun (t .clocks) (r .place) e rs h))
       (ends-entry k e (rest (entered t e) (begun ++ (e ∷ [])) (kept-entry k e h new room) q)))
   ends-judged t begun r rs k later rest (is-finish _ shape h) q =
       subst (λ x. Ended t begun (x ∷ rs)) (sym shape)

@@ -1,4 +1,4 @@
--- The guards of a table within the limits are on its clocks, and fair; no other clock is reset.
+-- The guards of a table within the limits are on its clocks, of one clock each, and fair; no other clock is reset.
 use mathlib.Core.Path.{_≡_, refl, sym, ap, subst, _∙_}
 use mathlib.Core.Bool.{Bool, true, false}
 use mathlib.Core.List.{List, [], _∷_, List·Memᴰ, List·Memᴰ·head, List·Memᴰ·tail, Memᴰ·of-map}
@@ -7,7 +7,7 @@ use native.Mathlib.Omega.{arith}
 use lib.ListN.{getD, replicate, getD-replicate}
 use lib.Seq.{getD-set-other}
 use Rattle.table.specs.declared.Guard.{Guard}
-use Rattle.table.specs.Step.{Step, resets, Fairs}
+use Rattle.table.specs.Step.{Step, resets, Plain, Fairs}
 use Rattle.wire.specs.Listing.{Entry, guard, reset, Listing, guardsOf, flagged, stepOf, cycle}
 use Rattle.format.specs.Encode.{LegalEntry, Legal}
 
@@ -36,9 +36,12 @@ module _ (l : Listing) (legal : Legal l) where
       let (es, at, e) = Memᴰ·of-map stepOf (l .steps) m in
       legal .each es at .entries (guard g) (guard-member es (subst (λ x. List·Memᴰ g (x .guards)) (sym e) i))
 
+  pub legal-plain : (s : Step) → List·Memᴰ s (cycle l) → (g : Guard) → List·Memᴰ g (s .guards) → Plain g
+  legal-plain s m g i = legal-guard s m g i .3
+
   pub legal-clocks : (s : Step) → List·Memᴰ s (cycle l) → (g : Guard) → List·Memᴰ g (s .guards)
-      → (0 < g .clock) × (g .clock ≤ l .clocks)
-  legal-clocks s m g i = let h = legal-guard s m g i in (h .0, h .1)
+      → (0 < g .clock) × (g .clock ≤ l .clocks) × (g .second ≤ l .clocks)
+  legal-clocks s m g i = let h = legal-guard s m g i in (h .0, h .1, omega (arith, h .3 .second))
 
   pub legal-resets : (s : Step) → List·Memᴰ s (cycle l) → (j : ℕ) → l .clocks < j → j < 7 → resets s j ≡ false
   unfolding stepOf
@@ -52,5 +55,11 @@ module _ (l : Listing) (legal : Legal l) where
       record {
         guards = λ g i.
             let h = legal-guard s m g i in
-            record { first = h .0; last = omega (arith, h .1, legal .clocks-few); small = h .2 };
+            record {
+              first = h .0;
+              last = omega (arith, h .1, legal .clocks-few);
+              second = omega (arith, h .3 .second);
+              plain = λ _. h .3 .minus;
+              small = h .2;
+            };
       }

@@ -121,7 +121,7 @@ module _ (t : Tally) (r : Record) where
         (shaped 2 k
         ∙ ap (λ body. record { place = r .place; kind = 2; body = body })
         (λ i. byte r 0 ∷ sym code i ∷ sym low i ∷ sym high i ∷ []))
-        (h .0, h .1, leb-true (constantOf r) 4000 d) refl
+        (h .0, h .1, leb-true (constantOf r) 4000 d, record { second = refl; minus = refl }) refl
         (omega (arith, ltb-true (t .guards) 64 a))
 
     reset-told : r .kind ≡ 3 → 0 < r .place → t .guards ≤ 64 → Told t r (cleared t (r .place) (byte r 0))

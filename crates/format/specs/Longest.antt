@@ -1,5 +1,6 @@
 -- How long the bytes of a table within the limits are: at most 531, and some are as long.
 use mathlib.Core.Path.{_≡_, refl}
+use mathlib.Core.Bool.{false}
 use mathlib.Core.List.{List, [], _∷_, _++_, List·Memᴰ}
 use mathlib.Core.List.List·Memᴰ.{List·Memᴰ·head, List·Memᴰ·tail}
 use Prim.Native.Nat.{ℕ, zero, suc, _+_, _*_, _≤_}
@@ -54,7 +55,7 @@ longest l h = omega (arith, steps-length (l .clocks) (l .steps) (h .clocks-few) 
 
 -- One table has as many, and is accepted.
 unfoldable pub fullStep : List Entry
-fullStep = replicate 4 (guard (record { clock = 1; relation = AtMost; constant = 4000 }))
+fullStep = replicate 4 (guard (record { clock = 1; second = 0; relation = AtMost; minus = false; constant = 4000 }))
     ++ (reset 1 ∷ reset 2 ∷ reset 3 ∷ reset 4 ∷ reset 5 ∷ reset 6 ∷ [])
 
 unfoldable pub full : List ℕ

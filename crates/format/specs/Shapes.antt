@@ -1,14 +1,16 @@
 -- The records of a table as it is encoded, and the tally after each.
-use mathlib.Core.Path.{_≡_, refl}
+use mathlib.Core.Path.{_≡_, refl, sym, ap}
 use mathlib.Core.Bool.{Bool, true, false}
 use mathlib.Core.List.{List, [], _∷_, _++_}
 use Prim.Native.Nat.{ℕ, _+_, _*_, _/_, _%_}
 use native.Mathlib.Omega.{arith}
 use lib.ListN.{length}
+use Rattle.table.specs.declared.Guard.{Guard}
 use Rattle.table.specs.declared.Relation.{Relation}
 use Rattle.table.specs.declared.Relation.the-variants.{Under, AtMost, Exactly, AtLeast, Over}
 use Rattle.table.specs.declared.Refusal.{Refusal}
 use Rattle.table.specs.declared.Read.the-variants as read
+use Rattle.table.specs.Step.{Plain}
 use Rattle.records.specs.declared.Tally.{Tally}
 use Rattle.records.specs.declared.Verdict.{Verdict}
 use Rattle.records.specs.declared.Verdict.the-variants.{Refused}
@@ -18,7 +20,7 @@ use Rattle.wire.specs.Reading.{judgeOf, check}
 use Rattle.wire.specs.Laws.{onward}
 use Rattle.records.specs.Rules.{relationOf, isFree, marked}
 use Rattle.wire.specs.Listing.{Entry, guard, reset, entry, contentOf, stepsIn, guardsOf}
-use Rattle.format.specs.Encode.{relationCode}
+use Rattle.format.specs.Encode.{relationCode, LegalEntry}
 
 -- the record of the head; and at a place, of an entry, of a finished step and of the end
 abbrev pub headWith : ℕ → Record
@@ -80,26 +82,40 @@ relation-back Over = refl
 pub constant-back : (c : ℕ) → c % 256 + c / 256 * 256 ≡ c
 constant-back c = omega arith
 
--- the record of an entry says that entry
-pub content-entry : (at : ℕ) (e : Entry) → contentOf (entryAt at e) ≡ entry e
-content-entry at (guard g) =
-    λ i. entry
-    (guard
-    (record {
+-- so a guard of one clock is read back
+pub guard-back : (g : Guard) → Plain g
+    → record {
       clock = g .clock;
+      second = 0;
+      relation = relationOf (relationCode (g .relation));
+      minus = false;
+      constant = g .constant % 256 + g .constant / 256 * 256;
+    } ≡ g
+guard-back g h =
+    λ i. record {
+      clock = g .clock;
+      second = sym (h .second) i;
       relation = relation-back (g .relation) i;
+      minus = sym (h .minus) i;
       constant = constant-back (g .constant) i;
-    }))
-content-entry at (reset j) = refl
+    }
+
+-- the record of a guard of one clock says that guard, and that of an entry that a table may have says that entry
+pub content-guard : (at : ℕ) (g : Guard) → Plain g → contentOf (entryAt at (guard g)) ≡ entry (guard g)
+content-guard at g h = ap (λ b. entry (guard b)) (guard-back g h)
+
+pub content-entry : (n at : ℕ) (e : Entry) → LegalEntry n e → contentOf (entryAt at e) ≡ entry e
+content-entry n at (guard g) l = content-guard at g (l .3)
+content-entry n at (reset j) l = refl
 
 -- how the answer goes on from a verdict, and the steps from an entry
 pub check-judged : (len : ℕ) (t : Tally) (r : Record) (rs : List Record) (v : Verdict) → judgeOf t r ≡ v
     → check len t (r ∷ rs) ≡ onward len t rs v
 check-judged = checking.check-judged (λ r. r .place) judgeOf
 
-pub steps-entry : (begun : List Entry) (at : ℕ) (e : Entry) (rs : List Record)
+pub steps-entry : (begun : List Entry) (n at : ℕ) (e : Entry) (rs : List Record) → LegalEntry n e
     → stepsIn begun (entryAt at e ∷ rs) ≡ stepsIn (begun ++ (e ∷ [])) rs
-steps-entry begun at e rs = says (entryAt at e) (content-entry at e)
+steps-entry begun n at e rs l = says (entryAt at e) (content-entry n at e l)
   where
     says : (r : Record) → contentOf r ≡ entry e → stepsIn begun (r ∷ rs) ≡ stepsIn (begun ++ (e ∷ [])) rs
     says r c = unfold stepsIn in rw (c, stepsIn)

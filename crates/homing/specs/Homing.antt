@@ -6,7 +6,7 @@ use Prim.Native.Nat.{ℕ, suc, _+_, _*_, _%_, _≤_, _<_, _^_}
 use native.Mathlib.Omega.{arith}
 use Rattle.runs.specs.declared.Demand.{Demand}
 use Rattle.runs.specs.Demand.{plus}
-use Rattle.sweeps.specs.Order.{sideOf, backOf}
+use Rattle.sweeps.specs.Order.{sideOf, upperOf}
 use Rattle.sweeps.specs.Number.{side-few}
 use Rattle.paths.specs.State.{State}
 use Rattle.paths.specs.Bounds.{SameSize}
@@ -16,7 +16,7 @@ use Rattle.ways.specs.Steps.{stepsOf, some-forth, some-back, some-order, some-l
 
 -- ---- the way back from a step: of the steps before `from`, those from i on are checked
 pub record Backward (up far : List ℕ) (L n K from q₀ : ℕ) (s₀ : State) (i s q : ℕ) (x : State) : Type 0 where
-  pub onto : Onto (backOf up far L n K K) q₀ s₀ x q
+  pub onto : Onto (upperOf up far L n K K) q₀ s₀ x q
   pub step : s ≡ i % L
   pub inside : i ≤ from
   pub few : q + 6 * i ≤ q₀ + 6 * from
@@ -26,7 +26,7 @@ module _ (up far : List ℕ) (L n K from q₀ : ℕ) (s₀ : State) where
   backward-first s e = record { onto = onto-none _ q₀ s₀; step = e; inside = omega arith; few = omega arith }
 
   module _ (i s q : ℕ) (x : State) (b : Backward up far L n K from q₀ s₀ i s q x) where
-    pub backward-went : Went (backOf up far L n K K) (6 * from) q₀ s₀ x q
+    pub backward-went : Went (upperOf up far L n K K) (6 * from) q₀ s₀ x q
     backward-went = record { onto = b .onto; few = omega (arith, b .few) }
 
     pub backward-size : SameSize s₀ x
@@ -34,7 +34,7 @@ module _ (up far : List ℕ) (L n K from q₀ : ℕ) (s₀ : State) where
 
     -- step k, before step i
     module _ (clocks : n ≤ 6) (steps : K ≤ 1024) (most : from ≤ K) (k t : ℕ) (l : i ≡ suc k) (e : t ≡ k % L) where
-      pub backward-able : q₀ ≤ 2 ^ 37 + 2 ^ 20 → Able (K + n + 1) (backOf up far L n K K) s₀ q₀ → Checkable (sideOf true up far K t k 1 n) x q
+      pub backward-able : q₀ ≤ 2 ^ 37 + 2 ^ 20 → Able (K + n + 1) (upperOf up far L n K K) s₀ q₀ → Checkable (sideOf true up far K t k 1 n) x q
       backward-able f a =
           able-checks _ q x (K + n + 1) (onto-able _ q₀ s₀ x q (b .onto) (K + n + 1) a) (omega (arith, b .few, f))
           (sideOf true up far K t k 1 n)
@@ -88,12 +88,12 @@ module _ (low up far : List ℕ) (L n K i s q : ℕ) (l : i < K) (e : s ≡ i % 
       pub return-few : q₂ ≤ q + 7
       return-few = omega (arith, c₁ .stamp, c₂ .stamp, side-few false low far K s i 1 n)
 
-      pub return-able : Able (K + n + 1) (backOf up far L n K K) x₂ q₂
+      pub return-able : Able (K + n + 1) (upperOf up far L n K K) x₂ q₂
       return-able =
-          able-narrower all q₂ x₂ (K + n + 1) (onto-able all q x x₂ q₂ lowered (K + n + 1) a) (backOf up far L n K K)
+          able-narrower all q₂ x₂ (K + n + 1) (onto-able all q x x₂ q₂ lowered (K + n + 1) a) (upperOf up far L n K K)
           (some-back low up far L n K)
 
-      pub step-went : (x₃ : State) (q₃ : ℕ) → Went (backOf up far L n K K) (6 * (i + 1)) q₂ x₂ x₃ q₃ → Went all 6151 q x x₃ q₃ × (q < q₃)
+      pub step-went : (x₃ : State) (q₃ : ℕ) → Went (upperOf up far L n K K) (6 * (i + 1)) q₂ x₂ x₃ q₃ → Went all 6151 q x x₃ q₃ × (q < q₃)
       step-went x₃ q₃ w = (
         record {
           onto = onto-append all q x x₂ q₂ lowered x₃ q₃ (onto-wider _ q₂ x₂ x₃ q₃ (w .onto) all (some-back low up far L n K));

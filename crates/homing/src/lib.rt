@@ -11,7 +11,7 @@ use last_resets::step_of;
 use ways::CHECKS;
 ghost use mathlib.Core.Path.{_≡_};
 ghost use Prim.Native.Nat.{_+_, _*_, _%_, _≤_, _<_, _^_};
-ghost use Rattle.sweeps.specs.Order.{backOf};
+ghost use Rattle.sweeps.specs.Order.{upperOf};
 ghost use Rattle.paths.specs.State.{state};
 ghost use Rattle.checks.specs.Some.{Able};
 ghost use Rattle.ways.specs.Forth.{Going};
@@ -39,8 +39,8 @@ fn back_from(
     q: u64,
 ) -> Way
     requires { ⌜ Going (now up) (now far) steps clocks total × (from ≤ total) × (first ≡ from % steps) × (q ≤ 2 ^ 37 + 2 ^ 20)
-        × Able (total + clocks + 1) (backOf (now up) (now far) steps clocks total total) (state (now time) (now parent) (now stamp)) q ⌝ }
-    ensures { λ r. ⌜ Went (backOf (now (up .entry)) (now (far .entry)) steps clocks total total) (6 * from) q
+        × Able (total + clocks + 1) (upperOf (now up) (now far) steps clocks total total) (state (now time) (now parent) (now stamp)) q ⌝ }
+    ensures { λ r. ⌜ Went (upperOf (now (up .entry)) (now (far .entry)) steps clocks total total) (6 * from) q
         (state (now (time .entry)) (now (parent .entry)) (now (stamp .entry)))
         (state (now (time .exit)) (now (parent .exit)) (now (stamp .exit))) (r .stamp) × (r .next ≤ from) ⌝ }
 {

@@ -9,7 +9,7 @@ use native.Mathlib.Nat.{mul-le-mul-right}
 use native.Mathlib.Omega.{arith}
 use native.Mathlib.Decide.{ℕ-discrete}
 use Rattle.runs.specs.declared.Demand.{Demand}
-use Rattle.sweeps.specs.Order.{sideOf, backAt}
+use Rattle.sweeps.specs.Order.{sideOf, upperAt}
 use Rattle.paths.specs.Constraint.{Constraint}
 use Rattle.checks.specs.InParts.{edges}
 use Rattle.lowering.specs.Lowered.{Bounds, bounds, lowersOf}
@@ -25,7 +25,7 @@ module _ (low up far : List ℕ) (L n K : ℕ) where
   N = K + n + 1
 
   abbrev own : ℕ → List Demand
-  own i = backAt up far L n K i
+  own i = upperAt up far L n K i
 
   abbrev forth : List Constraint
   forth = forthEdges low far L n K

@@ -33,12 +33,16 @@ module _ (low far : List ℕ) (L n K : ℕ) where
   abbrev cs : List Constraint
   cs = forthEdges low far L n K
 
-  -- What the checks give from step `from` down, when they need not go below the moment `floor`, nor below `lowest` at the end: all
-  -- demands hold where they went over all steps.
+  -- What the checks give from step `from` down, when they need not go below the moment `floor`, nor below `lowest` at the end: where they
+  -- went over all steps before `from`, the demands of these hold.
   pub record Descended (from floor : ℕ) (l₀ l : List ℕ) (lowest : ℕ) : Type 0 where
     pub falling : Falling N cs l₀ l
     pub bottom : lowest ≤ floor
-    pub settled : floor ≡ 0 → from ≡ K → Settled cs l
+    pub each : floor ≡ 0 → (m : ℕ) → m < from → Settled (edges (own m)) l
+
+  -- so all do where they went over all steps
+  pub descended-settled : (l₀ l : List ℕ) (lowest : ℕ) → Descended K 0 l₀ l lowest → Settled cs l
+  descended-settled l₀ l lowest d = forth-settled low far L n K l (d .each refl)
 
   -- On the way: step i, which is step s of its round, is past.
   pub record Descending (from floor : ℕ) (l₀ l : List ℕ) (i s lowest : ℕ) : Type 0 where
@@ -46,7 +50,7 @@ module _ (low far : List ℕ) (L n K : ℕ) where
     pub step : s ≡ i % L
     pub inside : i ≤ from
     pub bottom : lowest ≤ floor
-    pub past : floor ≡ 0 → from ≡ K → (m : ℕ) → i ≤ m → m < K → Settled (edges (own m)) l
+    pub past : floor ≡ 0 → (m : ℕ) → i ≤ m → m < from → Settled (edges (own m)) l
 
   pub descending-first : (from floor s : ℕ) (l : List ℕ) → Bounded N cs l → s ≡ from % L → Descending from floor l l from s floor
   descending-first from floor s l b e =
@@ -55,7 +59,7 @@ module _ (low far : List ℕ) (L n K : ℕ) where
         step = e;
         inside = omega arith;
         bottom = omega arith;
-        past = λ z f m a w. absurd (omega arith);
+        past = λ z m a w. absurd (omega arith);
       }
 
   -- the ends of what is checked at step i
@@ -148,12 +152,12 @@ module _ (low far : List ℕ) (L n K : ℕ) where
                 checks-lowers N cs (bounds l lowest) (bounds l₂ m₂) (u .falling .bounded) (edges (own i))
                     (forth-member low far L n K i inside) after .low,
               );
-              past = λ z q m a w. pick z q m a w (ℕ-discrete m i);
+              past = λ z m a w. pick z m a w (ℕ-discrete m i);
             }
           where
-            pick : floor ≡ 0 → from ≡ K → (m : ℕ) → i ≤ m → m < K → Dec (m ≡ i) → Settled (edges (own m)) l₂
-            pick z q m a w (yes p) = rw p settles
-            pick z q m a w (no p) = kept m (omega arith) w (u .past z q m (omega arith) w)
+            pick : floor ≡ 0 → (m : ℕ) → i ≤ m → m < from → Dec (m ≡ i) → Settled (edges (own m)) l₂
+            pick z m a w (yes p) = rw p settles
+            pick z m a w (no p) = kept m (omega arith) (omega arith) (u .past z m (omega arith) w)
 
   -- no step is left, or all that is left may stay as it is
   module _ (from floor : ℕ) (l₀ l : List ℕ) (i s lowest : ℕ) (u : Descending from floor l₀ l i s lowest) where
@@ -162,9 +166,9 @@ module _ (low far : List ℕ) (L n K : ℕ) where
         record {
           falling = u .falling;
           bottom = u .bottom;
-          settled = λ z f. forth-settled low far L n K l (λ m w. u .past z f m (omega arith) w);
+          each = λ z m w. u .past z m (omega arith) w;
         }
 
     pub descending-done : i < lowest → Descended from floor l₀ l lowest
     descending-done h =
-        record { falling = u .falling; bottom = u .bottom; settled = λ z f. absurd (omega (arith, u .bottom)) }
+        record { falling = u .falling; bottom = u .bottom; each = λ z m w. absurd (omega (arith, u .bottom)) }

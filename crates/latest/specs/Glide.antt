@@ -6,7 +6,7 @@ use Prim.Native.Nat.{ℕ, suc, _+_, _%_, _≤_, _<_}
 use native.Mathlib.Omega.{arith}
 use Rattle.runs.specs.declared.Demand.{Demand}
 use Rattle.runs.specs.Demand.{plus}
-use Rattle.sweeps.specs.Order.{sideOf, backAt}
+use Rattle.sweeps.specs.Order.{sideOf, upperAt}
 use Rattle.paths.specs.Constraint.{Constraint}
 use Rattle.checks.specs.InParts.{edges}
 use Rattle.lowering.specs.Lowered.{bounds}
@@ -45,7 +45,7 @@ module _ (up far : List ℕ) (L n K : ℕ) where
         subst (λ q. Able (sideOf true up far K q i 1 n) l) (sym (u .step))
         (record {
           moments = N;
-          bounded = bounded-some N back (edges (backAt up far L n K i)) l (back-member up far L n K i w) (u .risen .falling .bounded);
+          bounded = bounded-some N back (edges (upperAt up far L n K i)) l (back-member up far L n K i w) (u .risen .falling .bounded);
         })
 
     pub rising-next : (l₁ : List ℕ) (m₀ m : ℕ) → bounds l₁ m ≡ afterOf (sideOf true up far K s i 1 n) (bounds l m₀)
@@ -56,7 +56,7 @@ module _ (up far : List ℕ) (L n K : ℕ) where
               record {
                 falling =
                     falling-then N back l₀ l l₁ (u .risen .falling)
-                    (checks-falling N back (bounds l m₀) (bounds l₁ m) (u .risen .falling .bounded) (edges (backAt up far L n K i))
+                    (checks-falling N back (bounds l m₀) (bounds l₁ m) (u .risen .falling .bounded) (edges (upperAt up far L n K i))
                     (back-member up far L n K i w) (c ∙ ap (λ q. afterOf (sideOf true up far K q i 1 n) (bounds l m₀)) (u .step)));
                 since = omega (arith, u .risen .since);
                 inside = b;

@@ -8,7 +8,7 @@ use Rattle.paths.specs.Constraint.{Constraint}
 use Rattle.lowering.specs.Bounded.{Bounded, bounded-some}
 use Rattle.lowering.specs.Outcome.{total, Settled, Falling, Greatest, falling-first, falling-then, falling-among}
 use Rattle.latest.specs.Steps.{forthEdges, backEdges, stepEdges, left-member, either-settled}
-use Rattle.latest.specs.Descent.{Descended}
+use Rattle.latest.specs.Descent.{Descended, descended-settled}
 use Rattle.latest.specs.Ascent.{Ascended}
 
 module _ (low up far : List ℕ) (L n K : ℕ) where
@@ -65,7 +65,7 @@ module _ (low up far : List ℕ) (L n K : ℕ) where
               falling = falling-then N cs l₀ l l₂ (u .falling) (falling-then N cs l l₁ l₂ down (a .falling));
               settled = λ p.
                   let q = a .quiet p in
-                  either-settled forth back l₂ (subst (Settled forth) (sym (q .0)) (d .settled refl refl)) (q .1);
+                  either-settled forth back l₂ (subst (Settled forth) (sym (q .0)) (descended-settled low far L n K l l₁ bottom d)) (q .1);
             }
 
         pub settling-less : h ≡ true → measure l₂ r < measure l h

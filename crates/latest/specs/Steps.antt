@@ -5,8 +5,8 @@ use mathlib.Core.Logic.{⊎-elim}
 use Prim.Native.Nat.{ℕ, _<_}
 use native.Mathlib.Omega.{arith}
 use Rattle.runs.specs.declared.Demand.{Demand}
-use Rattle.sweeps.specs.Order.{forthAt, forthOf, backAt, backOf}
-use Rattle.sweeps.specs.Covered.{Among, forth-among, among-forth, back-among, among-back}
+use Rattle.sweeps.specs.Order.{forthAt, forthOf, upperAt, upperOf}
+use Rattle.sweeps.specs.Covered.{Among, forth-among, among-forth, upper-among, among-upper}
 use Rattle.paths.specs.Places.{at}
 use Rattle.paths.specs.Constraint.{Constraint, Holds}
 use Rattle.checks.specs.InParts.{edge, edges}
@@ -19,7 +19,7 @@ forthEdges low far L n K = edges (forthOf low far L n K 0 K)
 
 -- from above: its tightest guards from above
 unfoldable pub backEdges : List ℕ → List ℕ → ℕ → ℕ → ℕ → List Constraint
-backEdges up far L n K = edges (backOf up far L n K K)
+backEdges up far L n K = edges (upperOf up far L n K K)
 
 -- both
 abbrev pub stepEdges : List ℕ → List ℕ → List ℕ → ℕ → ℕ → ℕ → List Constraint
@@ -35,7 +35,7 @@ edges-among xs ys h c m = go (Memᴰ·of-map edge xs m)
     go d = rw (← d .2) (Memᴰ·map edge (h (d .0) (d .1)))
 
 -- what holds step by step holds of all
-edges-settled : (own : ℕ → List Demand) (ds : List Demand) (K : ℕ) (l : List ℕ)
+pub edges-settled : (own : ℕ → List Demand) (ds : List Demand) (K : ℕ) (l : List ℕ)
     → ((d : Demand) → List·Memᴰ d ds → Among own 0 K d)
     → ((i : ℕ) → i < K → Settled (edges (own i)) l) → Settled (edges ds) l
 edges-settled own ds K l among h c m = go (Memᴰ·of-map edge ds m)
@@ -61,16 +61,16 @@ module _ (low far : List ℕ) (L n K : ℕ) where
       edges-settled (forthAt low far L n K) (forthOf low far L n K 0 K) K l (forth-among low far L n K 0 K)
 
 module _ (up far : List ℕ) (L n K : ℕ) where
-  pub back-member : (i : ℕ) → i < K → (c : Constraint) → List·Memᴰ c (edges (backAt up far L n K i))
+  pub back-member : (i : ℕ) → i < K → (c : Constraint) → List·Memᴰ c (edges (upperAt up far L n K i))
       → List·Memᴰ c (backEdges up far L n K)
   unfolding backEdges
   back-member i l =
-      edges-among (backAt up far L n K i) (backOf up far L n K K) (λ d m. among-back up far L n K K i d (omega arith) m)
+      edges-among (upperAt up far L n K i) (upperOf up far L n K K) (λ d m. among-upper up far L n K K i d (omega arith) m)
 
-  pub back-settled : (l : List ℕ) → ((i : ℕ) → i < K → Settled (edges (backAt up far L n K i)) l)
+  pub back-settled : (l : List ℕ) → ((i : ℕ) → i < K → Settled (edges (upperAt up far L n K i)) l)
       → Settled (backEdges up far L n K) l
   unfolding backEdges
-  back-settled l = edges-settled (backAt up far L n K) (backOf up far L n K K) K l (back-among up far L n K K)
+  back-settled l = edges-settled (upperAt up far L n K) (upperOf up far L n K K) K l (upper-among up far L n K K)
 
 -- ---- one side among both
 module _ (xs ys : List Constraint) where

@@ -17,19 +17,19 @@ ghost use Rattle.latest.specs.Ascent.{Stepped, Ascended};
 ghost use Rattle.latest.specs.Glide.{Risen};
 
 // No moment: there are at most so many.
-const NEVER: usize = 1031;
+pub const NEVER: usize = 1031;
 
 // How far an ascent has come: whether it has lowered a bound, the step to go on with, and how many steps it may still go back.
-struct Way {
-    hit: bool,
-    next: usize,
-    left: usize,
+pub struct Way {
+    pub hit: bool,
+    pub next: usize,
+    pub left: usize,
 }
 
 // The checks back over the steps before `from`, from the last of them on: the order demand of each, then its tightest guards from
 // below. They stop at a moment below which nothing is lowered, neither by them nor, as the caller says with `floor`, before them. The
 // answer is such a moment. Step `from` is step `first` of its round.
-fn descend(
+pub fn descend(
     low: &[u64],
     far: &[usize],
     steps: usize,
@@ -61,7 +61,7 @@ fn descend(
 }
 
 // What is left of a number when another is taken away, 0 at the least.
-fn less(a: usize, b: usize) -> usize
+pub fn less(a: usize, b: usize) -> usize
     ensures { λ r. ⌜ r ≡ a - b ⌝ }
 {
     if a < b { 0 } else { a - b }

@@ -9,7 +9,7 @@ ghost use Rattle.lowering.specs.Bounded.{Lowerable};
 pub const NONE: u64 = 1099511627776;
 
 // The smaller of two numbers.
-fn smaller(a: usize, b: usize) -> usize
+pub fn smaller(a: usize, b: usize) -> usize
     ensures { λ r. ⌜ r ≡ min a b ⌝ }
 {
     if a < b { a } else { b }

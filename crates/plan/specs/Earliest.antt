@@ -4,29 +4,27 @@ use mathlib.Core.List.{List}
 use Prim.Native.Nat.{ℕ, _+_, _*_, _-_, _≤_, _<_}
 use native.Mathlib.Omega.{arith}
 use lib.ListN.{length}
-use Rattle.table.specs.Step.{Step}
+use Rattle.table.specs.Step.{Step, Fairs}
 use Rattle.runs.specs.Run.{Run}
-use Rattle.runs.specs.Demand.{Holds, Starts, stepsDemands, startDemands, demands, Allowed}
+use Rattle.runs.specs.Demand.{Holds, Starts, stepsDemands, startDemands, demands, Allowed, Clocks, Places}
 use Rattle.runs.specs.DemandOrder.{demands-is}
-use Rattle.runs.specs.Tools.{every-append}
-use Rattle.runs.specs.Allowed.{cut}
+use Rattle.runs.specs.DemandRange.{Proper}
+use Rattle.runs.specs.Tools.{Every, every-append}
 use Rattle.runs.specs.Satisfies.{Satisfies, start-satisfies}
 use Rattle.runs.specs.RowSteps.{rising}
-use Rattle.runs.specs.Rows.{rowAt, row-now}
-use Rattle.runs.specs.RunReplay.{twin-satisfies}
-use Rattle.solving.specs.Solved.{Above}
+use Rattle.runs.specs.Rows.{rowAt, row-now, run-row}
 use Rattle.plan.specs.Asked.{Asked, asked-places}
+use Rattle.runs.specs.Twin.{longest, Short, twin}
 
--- x is the least solution of the demands of σ that is not below the start values: 4001 ticks for moments 0 to K, and 0 for
+-- x is the least solution of the demands of σ that is not below the start values: B parts for moments 0 to K, and 0 for
 -- the last resets before the start.
-pub record Least (P n : ℕ) (σ : List Step) (D : Starts) (x : ℕ → ℕ) : Type 0 where
+pub record Least (B P n : ℕ) (σ : List Step) (D : Starts) (x : ℕ → ℕ) : Type 0 where
   pub solution : Satisfies P x (demands n σ D)
-  pub above : Above P (length σ) x
-  pub least : (y : ℕ → ℕ) → Satisfies P y (demands n σ D) → Above P (length σ) y
+  pub above : (i : ℕ) → i ≤ length σ → B ≤ x i
+  pub least : (y : ℕ → ℕ) → Satisfies P y (demands n σ D) → ((i : ℕ) → i ≤ length σ → B ≤ y i)
       → (v : ℕ) → v < length σ + n + 1 → x v ≤ y v
 
 module _ (P n : ℕ) (σ : List Step) (D : Starts) where
-  -- ---- a solution: no moment is before the start, and no last reset before the start is after it
   abbrev K : ℕ
   K = length σ
 
@@ -42,17 +40,22 @@ module _ (P n : ℕ) (σ : List Step) (D : Starts) where
   pub solution-past : (x : ℕ → ℕ) → Satisfies P x (demands n σ D) → (j : ℕ) → 0 < j → j ≤ n → x (K + j) ≤ x 0
   solution-past x h j p l = start-satisfies P x K D 1 n .1 (split x h .1) j p (omega arith) .0
 
-  -- No run from an allowed start has an earlier moment than the least solution.
-  pub least-earliest : (x : ℕ → ℕ) → Least P n σ D x → 0 < P → Asked n σ D
+  -- No run from an allowed start has an earlier moment than the least solution, if B is at least `longest` ticks.
+  pub least-earliest : (B : ℕ) (x : ℕ → ℕ) → Least B P n σ D x → 0 < P → longest * P ≤ B → Asked n σ D
       → (u r : ℕ → ℕ) → Run P σ u r → Allowed P D n r → (i : ℕ) → i ≤ K → x i - x 0 ≤ u i
-  least-earliest x h p a u r w b i l =
-      omega (arith, h .above 0 (omega arith), now i l, h .least y twin (λ m q. omega (arith, now m q)) i (omega arith))
+  least-earliest B x h p big a u r w b i l =
+      omega (arith, h .above 0 (omega arith), now i l, h .least y solved (λ m q. omega (arith, now m q)) i (omega arith))
     where
+      short : Short P p σ D n u
+      short = twin P p σ (a .fair) D n (a .few) (a .proper) u r w b
+
       y : ℕ → ℕ
-      y = rowAt (4001 * P) K u (cut P r)
+      y = rowAt B K u (short .starts)
 
-      twin : Satisfies P y (demands n σ D)
-      twin = twin-satisfies P n σ D u r p (a .fair) (a .clocks) (asked-places n σ D a) (a .plain) w b
+      solved : Satisfies P y (demands n σ D)
+      solved =
+          run-row P B n σ D u (short .starts) (a .clocks) (asked-places n σ D a)
+          (λ j q m. omega (arith, short .short j q (omega (arith, a .few)), big)) (short .run) (short .allowed)
 
-      now : (m : ℕ) → m ≤ K → y m ≡ 4001 * P + u m
-      now m q = row-now (4001 * P) K u (cut P r) m q
+      now : (m : ℕ) → m ≤ K → y m ≡ B + u m
+      now m q = row-now B K u (short .starts) m q

@@ -17,8 +17,8 @@ use Rattle.sides.specs.Covers.{covers-satisfies, covers-loop}
 use Rattle.paths.specs.Places.{at, length-written, at-written, drop-written}
 use Rattle.paths.specs.Constraint.{All, NegativeCycle}
 use Rattle.checks.specs.InParts.{allInParts, satisfies-parts}
-use Rattle.readout.specs.LeastStart.{leastStart}
 use Rattle.relaxing.specs.Rows.{rows, Sound}
+use Rattle.solving.specs.Solved as solved
 use Rattle.solving.specs.Solved.{LeastSolution, Plans, Cycles, Solved}
 use Rattle.solving.specs.declared.Solution.{Solution}
 use Rattle.solving.specs.declared.Solution.the-variants as solution
@@ -28,10 +28,10 @@ use Rattle.plan.specs.declared.Outcome.the-variants as outcome
 use Rattle.plan.specs.Answer.{rooms, momentsIn, startsIn, Planning, Refuted, Answered}
 use Rattle.plan.specs.Asked.{sized-asked}
 use Rattle.plan.specs.Earliest.{Least}
-use Rattle.plan.specs.Smallest.{momentsOf, smallestOf, least-planned}
+use Rattle.plan.specs.Smallest.{Latest, least-planned}
 use Rattle.plan.specs.Same.{planned-same}
 use Rattle.plan.specs.Refuted.{cycle-is-loop}
-use Rattle.plan.specs.Rows.{rowsOf, tightest, rows-same, rows-cover, rows-proper, rows-sound, Computed, keysIn}
+use Rattle.plan.specs.Rows.{rowsOf, tightest, rows-same, rows-cover, rows-sound, Computed, keysIn, leadsIn}
 
 -- the answer that a solution in so many parts is
 abbrev pub outcomeOf : ℕ → Solution → Outcome
@@ -58,7 +58,7 @@ module _ (t : Table) (v : Start) (k : ℕ) (z : Sized t k) where
   es = tightest t v k
 
   -- ---- the least solution
-  least : (x : ℕ → ℕ) → LeastSolution (rowsOf t v k) x → Least P n σ D x
+  least : (x : ℕ → ℕ) → LeastSolution (rowsOf t v k) x → Least (24012 * P) P n σ D x
   least x h =
       record {
         solution = covers-satisfies (rows-cover t v k z) P x (omega arith) .0 (satisfies-parts P x es .1
@@ -71,6 +71,20 @@ module _ (t : Table) (v : Start) (k : ℕ) (z : Sized t k) where
             (λ i m. b i (omega (arith, length-rounds t k))) u (omega (arith, length-rounds t k));
       }
 
+  -- and the greatest with its moments
+  latest : (x l : ℕ → ℕ) → solved.Latest (rowsOf t v k) x l → Latest P n σ D x l
+  latest x l h =
+      record {
+        solution = covers-satisfies (rows-cover t v k z) P l (omega arith) .0 (satisfies-parts P l es .1
+            (subst (λ cs. All cs l) (rows-same t v k z) (h .solution)));
+        now = λ i m. h .now i (omega (arith, length-rounds t k));
+        greatest = λ y q s e u w.
+            h .greatest y q
+            (subst (λ cs. All cs y) (sym (rows-same t v k z))
+            (satisfies-parts P y es .0 (covers-satisfies (rows-cover t v k z) P y (omega arith) .1 s)))
+            (λ i m. e i (omega (arith, length-rounds t k))) u (omega (arith, length-rounds t k));
+      }
+
   module _ (times starts room times′ starts′ room′ : List ℕ) (fit : Roomy (rowsOf t v k) times starts room) where
     -- It is the plan.
     found : Plans (rowsOf t v k) times starts room times′ starts′ room′
@@ -80,9 +94,10 @@ module _ (t : Table) (v : Start) (k : ℕ) (z : Sized t k) where
           parts = omega (arith, length-rounds t k);
           planned =
               planned-same P n σ D (sized-asked t v k z)
-              (momentsOf (f .x)) (smallestOf P es (length σ) (f .x)) (momentsIn times′) (startsIn starts′)
+              (λ i. f .x i - f .x 0) (λ j. f .l 0 - f .l (length σ + j)) (momentsIn times′) (startsIn starts′)
               moments smallest
-              (least-planned P n σ D (omega arith) (sized-asked t v k z) es (rows-cover t v k z) (f .x) (least (f .x) (f .least)));
+              (least-planned P n σ D (omega arith) (sized-asked t v k z) (f .x) (f .l) (latest (f .x) (f .l) (f .latest)) (24012 * P) (omega arith)
+              (least (f .x) (f .least)));
           times = record {
             size = ap length (f .times) ∙ length-written _ K times (fit .times);
             rest = rw (length-rounds t k) (rw (f .times) (drop-written _ K times));
@@ -94,19 +109,18 @@ module _ (t : Table) (v : Start) (k : ℕ) (z : Sized t k) where
           loop = f .loop;
         }
       where
-        moments : (i : ℕ) → i ≤ length σ → momentsIn times′ i ≡ momentsOf (f .x) i
+        moments : (i : ℕ) → i ≤ length σ → momentsIn times′ i ≡ f .x i - f .x 0
         moments zero m = omega arith
         moments (suc i) m =
             ap (λ (y : List ℕ). at y i) (f .times)
             ∙ at-written _ K times i (omega (arith, length-rounds t k))
             ∙ ap (λ (u : ℕ). f .x u - f .x 0) (omega arith)
 
-        smallest : (j : ℕ) → 0 < j → j ≤ n → startsIn starts′ j ≡ smallestOf P es (length σ) (f .x) j
+        smallest : (j : ℕ) → 0 < j → j ≤ n → startsIn starts′ j ≡ f .l 0 - f .l (length σ + j)
         smallest j p m =
             ap (λ (y : List ℕ). at y (j - 1)) (f .starts)
             ∙ at-written _ n starts (j - 1) (omega arith)
-            ∙ ap (λ cs. leastStart (f .x) cs (K + (j - 1 + 1))) (rows-same t v k z)
-            ∙ ap (leastStart (f .x) (allInParts P es)) (omega (arith, length-rounds t k))
+            ∙ ap (λ u. f .l 0 - f .l u) (omega (arith, length-rounds t k))
 
     -- ---- a cycle is a loop
     looped : (m : ℕ) → Cycles (rowsOf t v k) times starts room times′ starts′ room′ m
@@ -115,7 +129,7 @@ module _ (t : Table) (v : Start) (k : ℕ) (z : Sized t k) where
         record {
           loop =
               covers-loop (rows-cover t v k z) (take m room′)
-              (cycle-is-loop P (K + n) es (take m room′) (rows-proper t v k z)
+              (cycle-is-loop P es (take m room′)
               (subst (λ cs. NegativeCycle cs (take m room′)) (rows-same t v k z) (c .cycle)) (omega (arith, length-take m room′, c .short)));
           few = c .few;
           rest = record { size = c .size; rest = c .rest };
@@ -130,22 +144,23 @@ module _ (t : Table) (v : Start) (k : ℕ) (z : Sized t k) where
     solved-answered (solution.Cycle m) f = looped m f
 
 -- ---- the rows as they were computed
-module _ (t : Table) (v : Start) (k : ℕ) (z : Sized t k) (low up far : List ℕ) (c : Computed t k low up far) where
-  same : rowsOf t v k ≡ rows low up far v (t .steps) (t .clocks) (k * t .steps)
+module _ (t : Table) (v : Start) (k : ℕ) (z : Sized t k) (low up leads far : List ℕ) (c : Computed t k low up leads far) where
+  same : rowsOf t v k ≡ rows low up leads far v (t .steps) (t .clocks) (k * t .steps)
   same =
-      sym (ap (λ l. rows l up far v (t .steps) (t .clocks) (k * t .steps)) (c .below)
-      ∙ ap (λ l. rows (keysIn false t k) l far v (t .steps) (t .clocks) (k * t .steps)) (c .above)
-      ∙ ap (λ l. rows (keysIn false t k) (keysIn true t k) l v (t .steps) (t .clocks) (k * t .steps)) (c .distances))
+      sym (ap (λ l. rows l up leads far v (t .steps) (t .clocks) (k * t .steps)) (c .below)
+      ∙ ap (λ l. rows (keysIn false t k) l leads far v (t .steps) (t .clocks) (k * t .steps)) (c .above)
+      ∙ ap (λ l. rows (keysIn false t k) (keysIn true t k) l far v (t .steps) (t .clocks) (k * t .steps)) (c .led)
+      ∙ ap (λ l. rows (keysIn false t k) (keysIn true t k) (leadsIn t k) l v (t .steps) (t .clocks) (k * t .steps)) (c .distances))
 
   module _ (times starts room : List ℕ) (fit : Roomy (rowsOf t v k) times starts room) where
     -- can be solved,
-    pub rows-ready : Sound (rows low up far v (t .steps) (t .clocks) (k * t .steps))
-        × Roomy (rows low up far v (t .steps) (t .clocks) (k * t .steps)) times starts room
+    pub rows-ready : Sound (rows low up leads far v (t .steps) (t .clocks) (k * t .steps))
+        × Roomy (rows low up leads far v (t .steps) (t .clocks) (k * t .steps)) times starts room
     rows-ready = (subst Sound same (rows-sound t v k z), subst (λ R. Roomy R times starts room) same fit)
 
     -- and what is found is the answer.
     pub rows-answered : (times′ starts′ room′ : List ℕ) (s : Solution) (P : ℕ) (o : Outcome)
-        → Solved (rows low up far v (t .steps) (t .clocks) (k * t .steps)) times starts room times′ starts′ room′ s
+        → Solved (rows low up leads far v (t .steps) (t .clocks) (k * t .steps)) times starts room times′ starts′ room′ s
         → P ≡ partsOf t k → o ≡ outcomeOf P s
         → Answered (t .clocks) (roundsOf t k) (startsOf v) (rooms times starts room) (rooms times′ starts′ room′) o
     rows-answered times′ starts′ room′ s P o h a b =

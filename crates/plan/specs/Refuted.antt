@@ -1,6 +1,5 @@
 -- A negative cycle of the constraints in parts is a loop of the demands.
 use mathlib.Core.Path.{_≡_, refl, sym, ap, _∙_}
-use mathlib.Core.Logic.{_≢_}
 use mathlib.Core.List.{List, List·Memᴰ, Memᴰ·of-map}
 use Prim.Native.Nat.{ℕ, zero, suc, _≤_, _<_}
 use native.Mathlib.Omega.{arith}
@@ -8,13 +7,11 @@ use native.Mathlib.Decide.{decLt}
 use lib.ListN.{length}
 use Rattle.runs.specs.declared.Demand.{Demand}
 use Rattle.runs.specs.Loop.{Link, Loop}
-use Rattle.runs.specs.DemandRange.{Proper}
 use Rattle.basics.specs.Choice.{choose as sel, choose-yes as sel-yes, choose-no as sel-no}
-use Rattle.runs.specs.Tools.{Every}
 use Rattle.runs.specs.Parts.{gain, loss}
 use Rattle.runs.specs.Cycle.{cycle-loop}
 use Rattle.basics.specs.Numbers.{sum}
-use Rattle.paths.specs.Constraint.{Constraint, NegativeCycle, cycle-some, cycle-two}
+use Rattle.paths.specs.Constraint.{Constraint, NegativeCycle, cycle-some}
 use Rattle.paths.specs.Places.{at}
 use Rattle.checks.specs.InParts.{inParts, allInParts}
 
@@ -24,8 +21,7 @@ unfolding sum
 sum-same f g zero h = refl
 sum-same f g (suc n) h = omega (arith, sum-same f g n (λ k l. h k (omega arith)), h n (omega arith))
 
-module _ (P M : ℕ) (ds : List Demand) (vs : List ℕ) (proper : Every (Proper M) ds)
-    (c : NegativeCycle (allInParts P ds) vs) where
+module _ (P : ℕ) (ds : List Demand) (vs : List ℕ) (c : NegativeCycle (allInParts P ds) vs) where
   -- a demand behind a constraint of the cycle
   record Behind (k : ℕ) : Type 0 where
     demand : Demand
@@ -79,18 +75,10 @@ module _ (P M : ℕ) (ds : List Demand) (vs : List ℕ) (proper : Every (Proper 
       next (yes m) = c .to k m ∙ sym (round-in (suc k) m)
       next (no m) = c .close k (omega arith) ∙ sym (round-out (suc k) m)
 
-  apart : (e : Constraint) → List·Memᴰ e (allInParts P ds) → e .from ≢ e .to
-  apart e m q = go (Memᴰ·of-map (inParts P) ds m)
-    where
-      go : (d : Demand) × List·Memᴰ d ds × (inParts P d ≡ e) → ⊥
-      go d =
-          proper (d .0) (d .1) .apart
-          (ap (λ b. b .from) (d .2) ∙ q ∙ sym (ap (λ b. b .to) (d .2)))
-
   -- A negative cycle of at most P vertices is a loop.
   pub cycle-is-loop : length vs ≤ P → Loop ds vs
   cycle-is-loop few =
-      cycle-loop P ds vs round used (cycle-two (allInParts P ds) vs c apart) few
+      cycle-loop P ds vs round used some few
       (λ k l. sym (round-in k l))
       (λ i j l m e. c .distinct i j l m (sym (round-in i (omega arith)) ∙ e ∙ round-in j m))
       (round-out (length vs) (omega arith) ∙ sym (round-in 0 some))

@@ -1,15 +1,17 @@
 -- The rows of a table and a variant of the start: what their passes relax is, constraint by constraint, the tightest demands of k rounds
 -- in parts, and these stand for all.
-use mathlib.Core.Path.{_≡_, sym, ap, subst, _∙_}
+use mathlib.Core.Path.{_≡_, refl, sym, ap, subst, _∙_}
 use mathlib.Core.Bool.{Bool, true, false}
-use mathlib.Core.List.{List, map, List·Memᴰ, Memᴰ·of-map}
-use Prim.Native.Nat.{ℕ, _+_, _*_}
+use mathlib.Core.List.{List, _++_, map, List·Memᴰ, Memᴰ·of-map}
+use Prim.Native.Nat.{ℕ, zero, suc, _+_, _*_, _%_}
 use native.Mathlib.Omega.{arith}
-use native.Mathlib.Nat.{mul-mod-left}
+use native.Mathlib.Nat.{mul-mod-left, mod-lt}
+use Rattle.table.specs.Step.{stepAt}
 use Rattle.table.specs.declared.Table.{Table}
 use Rattle.runs.specs.declared.Demand.{Demand}
 use Rattle.runs.specs.declared.Start.{Start}
-use Rattle.runs.specs.Demand.{startsOf}
+use lib.ListN.{getD}
+use Rattle.runs.specs.Demand.{guardsDemands, startDemands, anyStarts, startsOf}
 use Rattle.runs.specs.DemandRange.{Proper}
 use Rattle.runs.specs.Parts.{bit-small}
 use Rattle.runs.specs.Tools.{Every}
@@ -17,11 +19,13 @@ use Rattle.constraints.specs.Demands.{demandsOf}
 use Rattle.constraints.specs.Sized.{Sized, partsOf, sized-parts, sized-proper}
 use Rattle.scaling.specs.Scaled.{scaled-most, scaledOf, scaled-size}
 use Rattle.scaling.specs.Constants.{tableWith, scaledTable, scaled-small}
+use Rattle.sides.specs.Tight.{paired, paired-twice}
+use Rattle.leads.specs.Leads.{leadsOf, ledBy, leads-step, leads-leading}
 use Rattle.sides.specs.Keys.{Numbers, keysOf, keys-size}
 use Rattle.sides.specs.Covers.{Covers}
 use Rattle.sides.specs.Scaled.{scaleDemand}
-use Rattle.last_resets.specs.Distance.{distancesOf, distances-size}
-use Rattle.sweeps.specs.Order.{sweepOf}
+use Rattle.last_resets.specs.Distance.{lastOf, distancesOf, distances-size}
+use Rattle.sweeps.specs.Order.{cell, sideOf, forthOf, backAt, backOf, partnersFrom, sweepOf}
 use Rattle.sweeps.specs.Covered.{covers-sweep}
 use Rattle.sweeps.specs.Scaled.{sweep-scaled}
 use Rattle.checks.specs.InParts.{allInParts, edges, edges-scaled}
@@ -32,19 +36,43 @@ use Rattle.relaxing.specs.Rows.{Rows, rows, sweep, constraintsOf, Sound}
 abbrev pub keysIn : Bool → Table → ℕ → List ℕ
 keysIn b t k = keysOf b (scaledTable (partsOf t k) t)
 
+-- the row of the guards between two clocks, with these constants
+abbrev pub leadsIn : Table → ℕ → List ℕ
+leadsIn t k = leadsOf (scaledTable (partsOf t k) t)
+
 abbrev pub rowsOf : Table → Start → ℕ → Rows
-rowsOf t v k = rows (keysIn false t k) (keysIn true t k) (distancesOf t) v (t .steps) (t .clocks) (k * t .steps)
+rowsOf t v k = rows (keysIn false t k) (keysIn true t k) (leadsIn t k) (distancesOf t) v (t .steps) (t .clocks) (k * t .steps)
 
 -- the tightest demands, in ticks and in the order of a pass
 abbrev pub tightest : Table → Start → ℕ → List Demand
-tightest t v k = sweepOf (keysOf false t) (keysOf true t) (distancesOf t) (startsOf v) (t .steps) (t .clocks) (k * t .steps)
+tightest t v k = sweepOf (keysOf false t) (keysOf true t) t (distancesOf t) (startsOf v) (t .steps) (t .clocks) (k * t .steps)
 
 module _ (t : Table) (v : Start) (k : ℕ) (z : Sized t k) where
   abbrev P : ℕ
   P = partsOf t k
 
+  abbrev T : Table
+  T = scaledTable P t
+
+  -- the row tells the leads of each step
+  back-led : (up far : List ℕ) (i : ℕ)
+      → backOf up (ledBy (leadsIn t k)) far (t .steps) (t .clocks) (k * t .steps) i ≡ backOf up T far (t .steps) (t .clocks) (k * t .steps) i
+  unfolding backOf
+  back-led up far zero = refl
+  back-led up far (suc i) =
+      ap (λ gs. (sideOf true up far (k * t .steps) (i % t .steps) i 1 (t .clocks)
+      ++ guardsDemands gs (suc i) (λ j. lastOf (getD far (cell (i % t .steps) j) 0) (k * t .steps) i j))
+      ++ backOf up (ledBy (leadsIn t k)) far (t .steps) (t .clocks) (k * t .steps) i)
+      (ap paired (leads-step t (z .good) (scaledOf P t) (i % t .steps) (mod-lt i (z .good .steps-some)))
+      ∙ paired-twice (stepAt T (i % t .steps) .guards))
+      ∙ ap (λ ds. backAt up T far (t .steps) (t .clocks) (k * t .steps) i ++ ds) (back-led up far i)
+
   scaled : sweep (rowsOf t v k) ≡ map (scaleDemand P) (tightest t v k)
-  scaled = sweep-scaled t k z P (omega arith) (sized-parts t k z) v
+  scaled =
+      ap (λ ds. partnersFrom (k * t .steps) (startsOf v) 1 (t .clocks)
+      ++ (forthOf (keysIn false t k) (distancesOf t) (t .steps) (t .clocks) (k * t .steps) 0 (k * t .steps)
+      ++ (ds ++ startDemands (k * t .steps) anyStarts 1 (t .clocks)))) (back-led (keysIn true t k) (distancesOf t) (k * t .steps))
+      ∙ sweep-scaled t k z P (omega arith) (sized-parts t k z) v
 
   -- What is relaxed is, constraint by constraint and in the same order, what the demands in ticks are in parts.
   pub rows-same : constraintsOf (rowsOf t v k) ≡ allInParts P (tightest t v k)
@@ -76,6 +104,7 @@ module _ (t : Table) (v : Start) (k : ℕ) (z : Sized t k) where
       record {
         low = keys-size false (scaledTable P t);
         up = keys-size true (scaledTable P t);
+        leads = leads-leading t (z .good) (scaledOf P t);
         far = distances-size t;
         some = z .good .steps-some;
         steps = z .good .steps-few;
@@ -86,9 +115,10 @@ module _ (t : Table) (v : Start) (k : ℕ) (z : Sized t k) where
       }
 
 -- ---- the rows as they are computed, from the row of scaled constants
-pub record Computed (t : Table) (k : ℕ) (low up far : List ℕ) : Type 0 where
+pub record Computed (t : Table) (k : ℕ) (low up leads far : List ℕ) : Type 0 where
   pub below : low ≡ keysIn false t k
   pub above : up ≡ keysIn true t k
+  pub led : leads ≡ leadsIn t k
   pub distances : far ≡ distancesOf t
 
 module _ (t : Table) (k : ℕ) (z : Sized t k) (Q : ℕ) (q : Q ≡ partsOf t k) (cs : List ℕ) (e : cs ≡ scaledOf Q t) where
@@ -103,11 +133,12 @@ module _ (t : Table) (k : ℕ) (z : Sized t k) (Q : ℕ) (q : Q ≡ partsOf t k)
         small = scaled-small (partsOf t k) t (z .good) (sized-parts t k z);
       })
 
-  pub rows-computed : (low up far : List ℕ) → low ≡ keysOf false (tableWith cs t) → up ≡ keysOf true (tableWith cs t)
-      → far ≡ distancesOf t → Computed t k low up far
-  rows-computed low up far f g h =
+  pub rows-computed : (low up leads far : List ℕ) → low ≡ keysOf false (tableWith cs t) → up ≡ keysOf true (tableWith cs t)
+      → leads ≡ leadsOf (tableWith cs t) → far ≡ distancesOf t → Computed t k low up leads far
+  rows-computed low up leads far f g l h =
       record {
         below = f ∙ ap (λ l. keysOf false (tableWith l t)) same;
         above = g ∙ ap (λ l. keysOf true (tableWith l t)) same;
+        led = l ∙ ap (λ r. leadsOf (tableWith r t)) same;
         distances = h;
       }

@@ -3,6 +3,7 @@ use asking::Admission;
 use asking::admit;
 use decode::parse;
 use last_resets::distances;
+use leads::leads;
 use runs::Start;
 use scaling::scaled;
 use sides::keys;
@@ -55,10 +56,12 @@ fn plan_rounds(
     let constants = scaled(t, parts);
     let low = keys(t, &constants, false);
     let up = keys(t, &constants, true);
+    let led = leads(t, &constants);
     let far = distances(t);
     let found = solve_here(
         &low,
         &up,
+        &led,
         &far,
         start,
         t.steps,

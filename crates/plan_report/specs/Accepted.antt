@@ -40,7 +40,8 @@ tabled bytes small n L g e =
           length-copies (cycleOf bytes) k
           ∙ ap (λ (m : ℕ). k * m) (length-map (listing bytes .steps) stepOf ∙ sym (w .steps));
       asked = λ k.
-          asked-start LogIn n (roundsIn bytes k) (fairs-copies (cycleOf bytes) k (legal-fair (listing bytes) (w .legal)))
+          asked-start LogIn n (roundsIn bytes k) (omega (arith, w .clocks, w .legal .clocks-few))
+          (fairs-copies (cycleOf bytes) k (legal-fair (listing bytes) (w .legal)))
           (rw (w .clocks)
           (clocks-copies (clocksOf bytes) (cycleOf bytes) k (legal-clocks (listing bytes) (w .legal))));
       admits = λ k r. rw (askingOf, e) refl;

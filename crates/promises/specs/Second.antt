@@ -3,6 +3,7 @@ use mathlib.Core.Path.{_≡_}
 use mathlib.Core.Logic.{_⊎_}
 use mathlib.Core.List.{List}
 use Prim.Native.Nat.{ℕ, _+_, _*_, _≤_}
+use lib.ListN.{length, getD, take}
 use Rattle.runs.specs.declared.Start.{Start}
 use Rattle.runs.specs.Run.{Run}
 use Rattle.runs.specs.Demand.{startsOf, Allowed}
@@ -19,6 +20,8 @@ pub record PlanOrLoop (bytes : List ℕ) (v : Start) (n L k : ℕ) (after : Room
   pub allowed : (P : ℕ) → GivesPlan a P → Allowed P (startsOf v) n (startsIn (after .starts))
   -- what is not refused is a plan or a loop;
   pub withheld : NotRefused a → GivesPlan a (k * L + n + 1) ⊎ GivesLoop bytes v k after a
+  -- a loop has at least two distinct moments, as long as every guard is of one clock, as the guards of every table are;
+  pub two : GivesLoop bytes v k after a → 2 ≤ length (take (getD a 2 0) (after .loop))
   -- and where there is a loop no run of k rounds exists, in any parts and from any start that the variant allows.
   pub none : GivesLoop bytes v k after a → RunExists bytes v k → ⊥
 

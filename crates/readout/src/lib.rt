@@ -1,26 +1,15 @@
 // What a solution of the constraints of k rounds says: the moments, and the smallest starts for them.
-use constraints::bit_of;
-use constraints::following;
-use last_resets::last_reset;
+use latest::descend;
+use leads::any_leads;
+use led_latest::lower_led;
+use lowering::smaller;
 use sides::NONE;
-use sweeps::lower_demand;
 ghost use mathlib.Core.Path.{_≡_};
-ghost use mathlib.Core.Bool.{false};
-ghost use Prim.Native.Nat.{ℕ, _+_, _-_, _≤_, _<_, max};
+ghost use Prim.Native.Nat.{ℕ, _+_, _-_, _≤_, _<_};
 ghost use lib.ListN.{length};
-ghost use Rattle.sides.specs.Tight.{keyDemands};
-ghost use Rattle.last_resets.specs.Distance.{lastOf};
-ghost use Rattle.sweeps.specs.Order.{forthOf};
 ghost use Rattle.paths.specs.Places.{at, written};
-ghost use Rattle.readout.specs.OneClock.{raisedBy};
-ghost use Rattle.readout.specs.Starting.{Raisable, Startable, Rowed, startAt};
-
-// The larger of two numbers.
-fn larger(a: u64, b: u64) -> u64
-    ensures { λ r. ⌜ r ≡ max a b ⌝ }
-{
-    if a < b { b } else { a }
-}
+ghost use Rattle.readout.specs.Late.{Began, Rowed, Told};
+ghost use Rattle.readout.specs.Reach.{Further, Reach};
 
 // a − b, or 0 where b is larger.
 fn over(a: u64, b: u64) -> u64
@@ -29,77 +18,87 @@ fn over(a: u64, b: u64) -> u64
     if a < b { 0 } else { a - b }
 }
 
-// The start of clock j, raised to what the key of its guard from below at step i asks, if it was not reset since the start.
-fn raise(
-    key: u64,
-    distance: usize,
-    i: usize,
-    j: usize,
-    total: usize,
-    time: &[u64],
-    start: u64,
-) -> u64
-    requires { ⌜ Raisable i j total (now time) ⌝ }
-    ensures { λ r. ⌜ r ≡ raisedBy total (at (now (time .entry))) j
-        (keyDemands false key (lastOf distance total i j) (i + 1)) start ⌝ }
-{
-    if NONE <= key {
-        return start;
-    }
-    let z = last_reset(distance, total, i, j);
-    if z <= total {
-        return start;
-    }
-    let d = lower_demand(key, z, i + 1);
-    let gain = d.down + bit_of(d.strict);
-    larger(start, over(time[0] + gain, time[i + 1]))
-}
-
-// The smallest start of clock j: the largest that a step asks. Step i is step s of its round.
-fn start_of(
-    low: &[u64],
-    far: &[usize],
-    steps: usize,
-    clocks: usize,
-    total: usize,
-    j: usize,
-    time: &[u64],
-) -> u64
-    requires { ⌜ Startable (now low) (now far) steps clocks total j (now time) ⌝ }
-    ensures { λ r. ⌜ r ≡ raisedBy total (at (now (time .entry))) j
-        (forthOf (now (low .entry)) (now (far .entry)) steps clocks total 0 total) 0 ⌝ }
-{
-    let mut start: u64 = 0;
-    let mut i: usize = 0;
-    let mut s: usize = 0;
-    while i < total {
-        let at = 7 * s + j;
-        start = raise(low[at], far[at], i, j, total, time, start);
-        s = following(s, steps);
-        i += 1;
-    }
-    start
-}
-
-// Writes the smallest starts for the moments of a solution to the first places.
-pub fn write_starts(
-    low: &[u64],
-    far: &[usize],
-    steps: usize,
-    clocks: usize,
-    total: usize,
-    time: &[u64],
-    starts: &mut [u64],
-)
-    requires { ⌜ Rowed (now low) (now far) steps clocks total (now time) × (clocks ≤ length (now starts)) ⌝ }
-    ensures { λ _. ⌜ now (starts .exit)
-        ≡ written (startAt (now (low .entry)) (now (far .entry)) steps clocks total (now (time .entry))) clocks (now (starts .entry)) ⌝ }
+// Sets the times of the last resets before the start to that of the start.
+fn begin(total: usize, clocks: usize, time: &mut [u64])
+    requires { ⌜ total + clocks < length (now time) ⌝ }
+    ensures { λ _. ⌜ Began (now (time .entry)) total clocks (now (time .exit)) ⌝ }
 {
     let mut j: usize = 0;
     while j < clocks {
-        starts[j] = start_of(low, far, steps, clocks, total, j + 1, time);
+        time[total + (j + 1)] = time[0];
         j += 1;
     }
+}
+
+// As many steps as `most`, or as the last reset is steps ago of the clock that a guard from below with this key is on; or all, if it is
+// never reset.
+fn further(key: u64, distance: usize, total: usize, most: usize) -> usize
+    requires { ⌜ most ≤ total ⌝ }
+    ensures { λ r. ⌜ Further total key distance most r ⌝ }
+{
+    if NONE <= key {
+        return most;
+    }
+    if distance == 0 {
+        return total;
+    }
+    if most < distance { distance } else { most }
+}
+
+// From this step on every clock that a guard from below is on was reset since the start.
+fn reach(low: &[u64], far: &[usize], steps: usize, total: usize) -> usize
+    requires { ⌜ (length (now low) ≡ 112) × (length (now far) ≡ 112) × (steps ≤ 16) ⌝ }
+    ensures { λ r. ⌜ Reach (now (low .entry)) (now (far .entry)) steps total r ⌝ }
+{
+    let mut most: usize = 0;
+    let mut p: usize = 0;
+    while p < 7 * steps {
+        most = smaller(further(low[p], far[p], total, most), total);
+        p += 1;
+    }
+    most
+}
+
+// Writes the starts that the times of the last resets before the start tell to the first places.
+fn tell(late: &[u64], total: usize, clocks: usize, starts: &mut [u64])
+    requires { ⌜ (total + clocks < length (now late)) × (clocks ≤ length (now starts)) ⌝ }
+    ensures { λ _. ⌜ now (starts .exit)
+        ≡ written (λ j. at (now (late .entry)) 0 - at (now (late .entry)) (total + (j + 1))) clocks (now (starts .entry)) ⌝ }
+{
+    let mut j: usize = 0;
+    while j < clocks {
+        starts[j] = over(late[0], late[total + (j + 1)]);
+        j += 1;
+    }
+}
+
+// Writes the smallest starts for the moments of a solution to the first places. The times of the last resets before the start are set to
+// that of the start and lowered as far as the demands ask: by the guards from below, and with guards between two clocks until all hold.
+pub fn write_starts(
+    low: &[u64],
+    up: &[u64],
+    leads: &[u64],
+    far: &[usize],
+    steps: usize,
+    clocks: usize,
+    total: usize,
+    time: &mut [u64],
+    starts: &mut [u64],
+)
+    requires { ⌜ Rowed (now low) (now up) (now leads) (now far) steps clocks total (now time) (now starts) ⌝ }
+    ensures { λ _. ⌜ Told (now (low .entry)) (now (up .entry)) (now (leads .entry)) (now (far .entry)) steps clocks total
+        (now (time .entry)) (now (time .exit)) (now (starts .entry)) (now (starts .exit)) ⌝ }
+{
+    begin(total, clocks, time);
+    let from = reach(low, far, steps, total);
+    let first = from % steps;
+    let bottom = descend(low, far, steps, clocks, total, from, first, 0, time);
+    if !any_leads(leads, steps) {
+        tell(time, total, clocks, starts);
+        return;
+    }
+    lower_led(low, up, leads, far, steps, clocks, total, time);
+    tell(time, total, clocks, starts);
 }
 
 // Writes the moments after the start, as times since it, to the first places.

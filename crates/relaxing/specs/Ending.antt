@@ -3,13 +3,14 @@ use mathlib.Core.Path.{_≡_, refl, sym, ap, subst, _∙_}
 use mathlib.Core.Logic.{⊎-elim}
 use mathlib.Core.Bool.{Bool, true, false}
 use mathlib.Core.List.{List, List·Memᴰ·append-cases, Memᴰ·append-left, Memᴰ·append-right}
-use Prim.Native.Nat.{ℕ, zero, suc, _+_, _*_, _-_, _≤_, _<_, _^_}
+use Prim.Native.Nat.{ℕ, zero, suc, _+_, _*_, _-_, _%_, _≤_, _<_, _^_}
 use native.Mathlib.Omega.{arith}
 use native.Mathlib.Numerals.{add-one}
 use native.Mathlib.Decide.{decLe, decLt, ℕ-discrete}
 use lib.ListN.{length}
 use Rattle.runs.specs.declared.Demand.{Demand}
 use Rattle.runs.specs.Demand.{startsOf}
+use Rattle.leads.specs.Leads.{ledBy, led-few}
 use Rattle.sweeps.specs.Order.{forthOf, partnersFrom}
 use Rattle.sweeps.specs.Number.{sweep-few}
 use Rattle.paths.specs.Places.{at, filled, length-written}
@@ -22,7 +23,8 @@ use Rattle.paths.specs.Outcome.{outcome-must}
 use Rattle.paths.specs.Search.{Searchable, Search, found-some}
 use Rattle.checks.specs.Checks.{length-edges, slight-fits}
 use Rattle.checks.specs.Some.{Some, Able, onto-wider, able-narrower}
-use Rattle.ways.specs.Steps.{stepsOf, Went}
+use Rattle.ways.specs.Steps.{Went}
+use Rattle.led_ways.specs.Home.{ledSteps}
 use Rattle.relaxing.specs.Rows.{Rows, sweep, moments, constraintsOf, Sound, sound-moments}
 use Rattle.relaxing.specs.Pass.{Passable, Swept}
 use Rattle.relaxing.specs.Passes.{Begins, Ended}
@@ -34,25 +36,25 @@ use Rattle.relaxing.specs.Reached.{reached-rises, reached-least, reached
 pub record Cleared (N : ℕ) (all : List Demand) (q : ℕ) (s s′ : State) : Type 0 where
   pub home : State
   pub next : ℕ
-  pub went : Went all (2 ^ 17) q s home next
+  pub went : Went all (2 ^ 19) q s home next
   pub stamp : List ℕ
   pub filled : stamp ≡ filled 0 N (home .stamp)
   pub after : s′ ≡ state (home .time) (home .parent) stamp
 
 pub home-cleared : (N : ℕ) (all : List Demand) (q : ℕ) (s : State) (time parent stamp stamp′ : List ℕ) (next : ℕ)
-    → Went all (2 ^ 17) q s (state time parent stamp) next → stamp′ ≡ filled 0 N stamp → Cleared N all q s (state time parent stamp′)
+    → Went all (2 ^ 19) q s (state time parent stamp) next → stamp′ ≡ filled 0 N stamp → Cleared N all q s (state time parent stamp′)
 home-cleared N all q s time parent stamp stamp′ next w e =
     record { home = state time parent stamp; next = next; went = w; stamp = stamp′; filled = e; after = refl }
 
--- When m passes are made: s is the state before and s′ after, q the stamp of the next check before and r after. The first sixteen passes
--- have at most one way before them, the seventeenth two, after which no moment is stamped, and the others none.
+-- When m passes are made: s is the state before and s′ after, q the stamp of the next check before and r after. The first seventeen passes
+-- have ways before them, of so many checks at most; after those of the last no moment is stamped, and the others have none.
 pub record Approached (N : ℕ) (all : List Demand) (m q : ℕ) (s s′ : State) (r : ℕ) : Type 0 where
-  pub near : m < 16 → Went all (2 ^ 16) q s s′ r
+  pub near : m < 16 → Went all (2 ^ 19) q s s′ r
   pub clear : m ≡ 16 → Cleared N all q s s′ × (r ≡ 1)
   pub kept : 16 < m → (s′ ≡ s) × (r ≡ q)
 
 module _ (N : ℕ) (all : List Demand) (m q : ℕ) (s s′ : State) (r : ℕ) where
-  pub approached-near : m < 16 → Went all (2 ^ 16) q s s′ r → Approached N all m q s s′ r
+  pub approached-near : m < 16 → Went all (2 ^ 19) q s s′ r → Approached N all m q s s′ r
   approached-near l w = record { near = λ h. w; clear = λ h. absurd (omega arith); kept = λ h. absurd (omega arith) }
 
   pub approached-clear : m ≡ 16 → Cleared N all q s s′ → r ≡ 1 → Approached N all m q s s′ r
@@ -78,7 +80,7 @@ pub record Passing (R : Rows) (s₀ : State) (f m most q : ℕ) (s : State) : Ty
   pub turned : f ≤ m → (c : ℕ) → m ≡ 16 + c → Turned R since c q s
 
 -- the demands of the steps are in the sweep
-pub steps-swept : (R : Rows) → Some (sweep R) (stepsOf (R .low) (R .up) (R .far) (R .steps) (R .clocks) (R .total))
+pub steps-swept : (R : Rows) → Some (sweep R) (ledSteps (R .low) (R .up) (R .leads) (R .far) (R .steps) (R .clocks) (R .total))
 steps-swept R d m =
     Memᴰ·append-right (partnersFrom (R .total) (startsOf (R .start)) 1 (R .clocks))
     (⊎-elim (Memᴰ·append-left _)
@@ -93,19 +95,20 @@ module _ (R : Rows) (s₀ : State) (z : Sound R) (b : Begins (moments R) (R .tot
   cs = constraintsOf R
 
   abbrev steps : List Demand
-  steps = stepsOf (R .low) (R .up) (R .far) (R .steps) (R .clocks) (R .total)
+  steps = ledSteps (R .low) (R .up) (R .leads) (R .far) (R .steps) (R .clocks) (R .total)
 
   -- the most that the next stamp is after m passes
   abbrev most : ℕ → ℕ
   most m = 1 + m * 2 ^ 20
 
-  few-checks : length cs ≤ 13324
+  few-checks : length cs ≤ 144396
   unfolding constraintsOf
   few-checks =
       omega (
         arith,
         length-edges (sweep R),
-        sweep-few (R .low) (R .up) (R .far) (R .start) (R .steps) (R .clocks) (R .total) (z .clocks) (z .few),
+        sweep-few (R .low) (R .up) (ledBy (R .leads)) (R .far) (R .start) (R .steps) (R .clocks) (R .total) (z .clocks) (z .few)
+            (λ s. led-few (R .leads) (z .leads .size) (s % R .steps)),
       )
 
   fits : Fits N cs
@@ -156,7 +159,7 @@ module _ (R : Rows) (s₀ : State) (z : Sound R) (b : Begins (moments R) (R .tot
     -- what comes before it is done
     module _ (s′ : State) (r : ℕ) (a : Approached N steps m q s s′ r) where
       abbrev near : ℕ
-      near = most m + 2 ^ 16
+      near = most m + 2 ^ 19
 
       -- after a way
       onward : (x : State) (n k : ℕ) → Went steps k q s x n → Reached R s₀ (p .since) x n
@@ -171,7 +174,7 @@ module _ (R : Rows) (s₀ : State) (z : Sound R) (b : Begins (moments R) (R .tot
           (λ v w. omega (arith, reached-under R z s₀ (b .room) (p .since) (k .home) (k .next) t (2 ^ 60) (p .early (omega arith)) v w, k .went .few, passing-low)))
         where
           t : Reached R s₀ (p .since) (k .home) (k .next)
-          t = onward (k .home) (k .next) (2 ^ 17) (k .went)
+          t = onward (k .home) (k .next) (2 ^ 19) (k .went)
 
       pub approached-passing : Passing R s₀ 16 m near r s′
       approached-passing = go (decLt m 16) (ℕ-discrete m 16)
@@ -180,7 +183,7 @@ module _ (R : Rows) (s₀ : State) (z : Sound R) (b : Begins (moments R) (R .tot
           go (yes l) d =
               record {
                 since = p .since;
-                reached = onward s′ r (2 ^ 16) (a .near l);
+                reached = onward s′ r (2 ^ 19) (a .near l);
                 few = omega (arith, a .near l .few, p .few);
                 early = λ h. p .early (omega arith);
                 turned = λ h. absurd (omega arith);

@@ -3,14 +3,15 @@ use mathlib.Core.Path.{_≡_, sym, ap, subst, _∙_}
 use mathlib.Core.Logic.{_⊎_, ⊎-elim}
 use mathlib.Core.Bool.{Bool, true, false, _||_, or-true}
 use mathlib.Core.List.{List, _++_, List·Memᴰ·append-cases, map-append, append-assoc}
-use Prim.Native.Nat.{ℕ, _+_, _≤_, _^_}
+use Prim.Native.Nat.{ℕ, _+_, _%_, _≤_, _^_}
 use native.Mathlib.Omega.{arith}
 use lib.ListN.{length, length-append}
 use Rattle.runs.specs.declared.Demand.{Demand}
 use Rattle.runs.specs.Demand.{startDemands, anyStarts, startsOf}
 use Rattle.runs.specs.Start.{start-upper}
 use Rattle.runs.specs.Tools.{Every, every-append}
-use Rattle.sweeps.specs.Order.{forthOf, backOf, partnersFrom}
+use Rattle.sweeps.specs.Order.{forthOf, backOf, upperOf, partnersFrom}
+use Rattle.leads.specs.Leads.{ledBy, led-few, Leading}
 use Rattle.sweeps.specs.Number.{sweep-few}
 use Rattle.paths.specs.Places.{at}
 use Rattle.paths.specs.Constraint.{Constraint, All}
@@ -20,7 +21,9 @@ use Rattle.paths.specs.Pass.{quiet}
 use Rattle.paths.specs.Onward.{onward-settles}
 use Rattle.checks.specs.InParts.{edge, edges}
 use Rattle.checks.specs.Checks.{Slight, Checkable, Checked, length-edges, slight-fits, checked-append, checkable-left, checkable-right}
-use Rattle.relaxing.specs.Rows.{Rows, sweep, moments, constraintsOf, Sound}
+use Rattle.checks.specs.Led.{upper-all}
+use Rattle.ways.specs.Forth.{Going}
+use Rattle.relaxing.specs.Rows.{Rows, sweep, moments, constraintsOf, Sound, going-up, Tells}
 use Rattle.relaxing.specs.Onward.{way-onward}
 
 -- What a pass asks.
@@ -38,6 +41,24 @@ pub record Swept (R : Rows) (q : ℕ) (s s′ : State) (h : Bool) (r : ℕ) : Ty
   pub loud : h ≡ true → hitsOf (constraintsOf R) q s ≡ true
   pub quiet : h ≡ false → All (constraintsOf R) (at (s′ .time))
 
+-- What the checks back ask: `led` is false only where there is no guard between two clocks.
+pub record Turning (led : Bool) (up leads far : List ℕ) (L n K : ℕ) : Type 0 where
+  pub going : Going up far L n K
+  pub leading : Leading leads L
+  pub whole : K % L ≡ 0
+  pub idle : led ≡ false → backOf up (ledBy leads) far L n K K ≡ upperOf up far L n K K
+
+pub turning : (led : Bool) (R : Rows) → Sound R → Tells led R → Turning led (R .up) (R .leads) (R .far) (R .steps) (R .clocks) (R .total)
+turning led R z t = record { going = going-up R z; leading = z .leads; whole = z .whole; idle = λ e. upper-all (R .up) (R .leads) (R .far) (R .steps) (R .clocks) (R .total) (z .some) (z .leads) (t e) }
+
+module _ (led : Bool) (up leads far : List ℕ) (L n K : ℕ) (t : Turning led up leads far L n K) (e : led ≡ false) where
+  pub upper-able : (s : State) (q : ℕ) → Checkable (backOf up (ledBy leads) far L n K K) s q → Checkable (upperOf up far L n K K) s q
+  upper-able s q = subst (λ ds. Checkable ds s q) (t .idle e)
+
+  pub upper-checked : (h : Bool) (q : ℕ) (s s′ : State) (g : Bool) (r : ℕ) → Checked (upperOf up far L n K K) h q s s′ g r
+      → Checked (backOf up (ledBy leads) far L n K K) h q s s′ g r
+  upper-checked h q s s′ g r = subst (λ ds. Checked ds h q s s′ g r) (sym (t .idle e))
+
 module _ (R : Rows) (q : ℕ) (s : State) (p : Passable R s q) where
   abbrev P : ℕ
   P = moments R
@@ -49,13 +70,14 @@ module _ (R : Rows) (q : ℕ) (s : State) (p : Passable R s q) where
   forth = forthOf (R .low) (R .far) (R .steps) (R .clocks) (R .total) 0 (R .total)
 
   abbrev back : List Demand
-  back = backOf (R .up) (R .far) (R .steps) (R .clocks) (R .total) (R .total)
+  back = backOf (R .up) (ledBy (R .leads)) (R .far) (R .steps) (R .clocks) (R .total) (R .total)
 
   abbrev starts : List Demand
   starts = startDemands (R .total) anyStarts 1 (R .clocks)
 
-  few : length (sweep R) ≤ 13324
-  few = sweep-few (R .low) (R .up) (R .far) (R .start) (R .steps) (R .clocks) (R .total) (p .sound .clocks) (p .sound .few)
+  few : length (sweep R) ≤ 144396
+  few = sweep-few (R .low) (R .up) (ledBy (R .leads)) (R .far) (R .start) (R .steps) (R .clocks) (R .total) (p .sound .clocks) (p .sound .few)
+      (λ s. led-few (R .leads) (p .sound .leads .size) (s % R .steps))
 
   able : Checkable (partners ++ (forth ++ (back ++ starts))) s q
   able =

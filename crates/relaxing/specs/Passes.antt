@@ -12,12 +12,12 @@ use Rattle.paths.specs.Cycle.{OnCycle}
 use Rattle.paths.specs.Code.{Wrote}
 use Rattle.relaxing.specs.Rows.{Rows, moments, Sound}
 
--- What the passes begin with: 4001 ticks for moments 0 to K, 0 for the last resets of the n clocks before the start, and no
+-- What the passes begin with: 24012 ticks for moments 0 to K, 0 for the last resets of the n clocks before the start, and no
 -- vertex stamped.
 pub record Begins (P K n : ℕ) (s : State) : Type 0 where
   pub room : Room (K + n + 1) s
   pub unstamped : (v : ℕ) → v < K + n + 1 → at (s .stamp) v ≡ 0
-  pub now : (v : ℕ) → v ≤ K → at (s .time) v ≡ 4001 * P
+  pub now : (v : ℕ) → v ≤ K → at (s .time) v ≡ 24012 * P
   pub past : (v : ℕ) → K < v → v < K + n + 1 → at (s .time) v ≡ 0
 
 -- What they ask: the start values, and a mark for each moment.

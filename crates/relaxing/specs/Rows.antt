@@ -1,13 +1,15 @@
 -- The rows that a pass goes over, and what is asked of them.
 use mathlib.Core.Path.{_≡_}
+use mathlib.Core.Bool.{Bool, false}
 use mathlib.Core.List.{List}
 use Prim.Native.Nat.{ℕ, _+_, _%_, _≤_, _<_}
 use native.Mathlib.Omega.{arith}
-use lib.ListN.{length}
+use lib.ListN.{length, getD}
 use Rattle.runs.specs.declared.Demand.{Demand}
 use Rattle.runs.specs.declared.Start.{Start}
 use Rattle.runs.specs.Demand.{startsOf}
 use Rattle.runs.specs.Tools.{Every}
+use Rattle.leads.specs.Leads.{ledBy, Leading}
 use Rattle.sweeps.specs.Order.{sweepOf}
 use Rattle.paths.specs.Constraint.{Constraint}
 use Rattle.checks.specs.InParts.{edges}
@@ -15,23 +17,24 @@ use Rattle.checks.specs.Checks.{Slight}
 use Rattle.ways.specs.Forth.{Going}
 
 -- With a place 7 * s + j for step s of a round and clock j: the keys of the tightest guards from below and from above, their
--- constants in parts, and the distances to the last resets. Rounds have so many steps and clocks, and all rounds together `total` steps;
--- they start as the variant says.
+-- constants in parts; and the distances to the last resets. Beside them the row of the guards between two clocks. Rounds have so many
+-- steps and clocks, and all rounds together `total` steps; they start as the variant says.
 pub record Rows : Type 0 where
   pub low : List ℕ
   pub up : List ℕ
+  pub leads : List ℕ
   pub far : List ℕ
   pub start : Start
   pub steps : ℕ
   pub clocks : ℕ
   pub total : ℕ
 
-abbrev pub rows : List ℕ → List ℕ → List ℕ → Start → ℕ → ℕ → ℕ → Rows
-rows low up far v L n K = record { low = low; up = up; far = far; start = v; steps = L; clocks = n; total = K }
+abbrev pub rows : List ℕ → List ℕ → List ℕ → List ℕ → Start → ℕ → ℕ → ℕ → Rows
+rows low up leads far v L n K = record { low = low; up = up; leads = leads; far = far; start = v; steps = L; clocks = n; total = K }
 
 -- the demands of a pass, in its order
 abbrev pub sweep : Rows → List Demand
-sweep R = sweepOf (R .low) (R .up) (R .far) (startsOf (R .start)) (R .steps) (R .clocks) (R .total)
+sweep R = sweepOf (R .low) (R .up) (ledBy (R .leads)) (R .far) (startsOf (R .start)) (R .steps) (R .clocks) (R .total)
 
 -- the number of moments, which is also the number of parts to a tick
 abbrev pub moments : Rows → ℕ
@@ -45,6 +48,7 @@ constraintsOf R = edges (sweep R)
 pub record Sound (R : Rows) : Type 0 where
   pub low : length (R .low) ≡ 112
   pub up : length (R .up) ≡ 112
+  pub leads : Leading (R .leads) (R .steps)
   pub far : length (R .far) ≡ 112
   pub some : 0 < R .steps
   pub steps : R .steps ≤ 16
@@ -64,3 +68,7 @@ module _ (R : Rows) (z : Sound R) where
   pub going-up : Going (R .up) (R .far) (R .steps) (R .clocks) (R .total)
   going-up =
       record { keyed = z .up; reached = z .far; some = z .some; steps = z .steps; clocks = z .clocks; few = z .few }
+
+-- `led` is false only where the rows have no guard between two clocks
+abbrev pub Tells : Bool → Rows → Type 0
+Tells led R = led ≡ false → getD (R .leads) (R .steps) 0 ≡ 0

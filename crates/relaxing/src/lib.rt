@@ -2,7 +2,10 @@
 // are not enough.
 use checks::Sweep;
 use homing::home;
+use leads::any_leads;
 use leaving::out;
+use led_ways::back_led;
+use led_ways::home_led;
 use paths::fill;
 use paths::find_cycle;
 use runs::Start;
@@ -11,12 +14,15 @@ use ways::check_partners;
 use ways::check_starts;
 use ways::forth;
 ghost use Prim.Native.Nat.{_+_, _≤_, _^_};
+ghost use Rattle.leads.specs.Leads.{ledBy, Leading};
+ghost use Rattle.sweeps.specs.Order.{backOf};
 ghost use Rattle.paths.specs.State.{state};
+ghost use Rattle.checks.specs.Checks.{Checkable, Checked};
 ghost use Rattle.checks.specs.Some.{Able};
 ghost use Rattle.ways.specs.Forth.{Going};
-ghost use Rattle.ways.specs.Steps.{stepsOf};
-ghost use Rattle.relaxing.specs.Rows.{rows, moments, constraintsOf};
-ghost use Rattle.relaxing.specs.Pass.{Passable, Swept};
+ghost use Rattle.led_ways.specs.Home.{ledSteps};
+ghost use Rattle.relaxing.specs.Rows.{rows, moments, constraintsOf, Tells};
+ghost use Rattle.relaxing.specs.Pass.{Passable, Swept, Turning};
 ghost use Rattle.relaxing.specs.Passes.{Ready, Ended};
 ghost use Rattle.relaxing.specs.Ending.{Approached};
 
@@ -25,11 +31,39 @@ const PLAIN: usize = 3;
 
 const TRIES: usize = 16;
 
+// The checks back over all steps, with guards between two clocks where `led` says that there are any.
+fn turn_back(
+    led: bool,
+    up: &[u64],
+    leads: &[u64],
+    far: &[usize],
+    steps: usize,
+    clocks: usize,
+    total: usize,
+    time: &mut [u64],
+    parent: &mut [u64],
+    stamp: &mut [u64],
+    w: Sweep,
+) -> Sweep
+    requires { ⌜ Turning led (now up) (now leads) (now far) steps clocks total
+        × Checkable (backOf (now up) (ledBy (now leads)) (now far) steps clocks total total) (state (now time) (now parent) (now stamp)) (w .stamp) ⌝ }
+    ensures { λ r. ⌜ Checked (backOf (now (up .entry)) (ledBy (now (leads .entry))) (now (far .entry)) steps clocks total total) (w .raised) (w .stamp)
+        (state (now (time .entry)) (now (parent .entry)) (now (stamp .entry)))
+        (state (now (time .exit)) (now (parent .exit)) (now (stamp .exit))) (r .raised) (r .stamp) ⌝ }
+{
+    if led {
+        return back_led(up, leads, far, steps, clocks, total, time, parent, stamp, w);
+    }
+    back(up, far, steps, clocks, total, time, parent, stamp, w)
+}
+
 // A check of each demand, the first with the stamp q: the partners, forth, then back and the starts. Whether the way back has raised a
 // time; if not, all demands hold, since the partners and the way forth leave their own satisfied.
 fn pass(
+    led: bool,
     low: &[u64],
     up: &[u64],
+    leads: &[u64],
     far: &[usize],
     start: Start,
     steps: usize,
@@ -40,8 +74,9 @@ fn pass(
     stamp: &mut [u64],
     q: u64,
 ) -> Sweep
-    requires { ⌜ Passable (rows (now low) (now up) (now far) start steps clocks total) (state (now time) (now parent) (now stamp)) q ⌝ }
-    ensures { λ r. ⌜ Swept (rows (now (low .entry)) (now (up .entry)) (now (far .entry)) start steps clocks total) q
+    requires { ⌜ Passable (rows (now low) (now up) (now leads) (now far) start steps clocks total) (state (now time) (now parent) (now stamp)) q
+        × Tells led (rows (now low) (now up) (now leads) (now far) start steps clocks total) ⌝ }
+    ensures { λ r. ⌜ Swept (rows (now (low .entry)) (now (up .entry)) (now (leads .entry)) (now (far .entry)) start steps clocks total) q
         (state (now (time .entry)) (now (parent .entry)) (now (stamp .entry)))
         (state (now (time .exit)) (now (parent .exit)) (now (stamp .exit))) (r .raised) (r .stamp) ⌝ }
 {
@@ -55,16 +90,29 @@ fn pass(
         raised: false,
         stamp: gone.stamp,
     };
-    let come = back(up, far, steps, clocks, total, time, parent, stamp, turned);
+    let come = turn_back(
+        led,
+        up,
+        leads,
+        far,
+        steps,
+        clocks,
+        total,
+        time,
+        parent,
+        stamp,
+        turned,
+    );
     check_starts(total, clocks, time, parent, stamp, come)
 }
 
-// What comes before a pass, when m are made: nothing before the first ones, then a way home or a way out, in turn. Before the first of
-// those that go on alone the stamps are taken away, after both. The answer is the stamp of the next check.
-fn approach(
+// What comes before a pass of a table with guards between two clocks, when m are made: nothing before the first, then a way home with
+// these. Before the first of those that go on alone the stamps are taken away after it. The answer is the stamp of the next check.
+fn approach_led(
     m: usize,
     low: &[u64],
     up: &[u64],
+    leads: &[u64],
     far: &[usize],
     steps: usize,
     clocks: usize,
@@ -74,16 +122,78 @@ fn approach(
     stamp: &mut [u64],
     q: u64,
 ) -> u64
-    requires { ⌜ Going (now low) (now far) steps clocks total × Going (now up) (now far) steps clocks total × (q ≤ 2 ^ 36)
-        × Able (total + clocks + 1) (stepsOf (now low) (now up) (now far) steps clocks total) (state (now time) (now parent) (now stamp)) q ⌝ }
-    ensures { λ r. ⌜ Approached (total + clocks + 1) (stepsOf (now (low .entry)) (now (up .entry)) (now (far .entry)) steps clocks total) m q
+    requires { ⌜ Going (now low) (now far) steps clocks total × Going (now up) (now far) steps clocks total × Leading (now leads) steps × (q ≤ 2 ^ 36) × (m ≤ 16)
+        × Able (total + clocks + 1) (ledSteps (now low) (now up) (now leads) (now far) steps clocks total) (state (now time) (now parent) (now stamp)) q ⌝ }
+    ensures { λ r. ⌜ Approached (total + clocks + 1) (ledSteps (now (low .entry)) (now (up .entry)) (now (leads .entry)) (now (far .entry)) steps clocks total) m q
         (state (now (time .entry)) (now (parent .entry)) (now (stamp .entry)))
         (state (now (time .exit)) (now (parent .exit)) (now (stamp .exit))) r ⌝ }
 {
-    if m < PLAIN {
+    if m == 0 {
         return q;
     }
+    let near = home_led(
+        low,
+        up,
+        leads,
+        far,
+        steps,
+        clocks,
+        total,
+        time,
+        parent,
+        stamp,
+        q,
+    );
+    if m < TRIES {
+        return near;
+    }
+    fill(stamp, total + clocks + 1, 0);
+    1
+}
+
+// What comes before a pass, when m are made: nothing before the first ones, then a way home or a way out, in turn. Before the first of
+// those that go on alone the stamps are taken away, after both. The answer is the stamp of the next check.
+fn approach(
+    led: bool,
+    m: usize,
+    low: &[u64],
+    up: &[u64],
+    leads: &[u64],
+    far: &[usize],
+    steps: usize,
+    clocks: usize,
+    total: usize,
+    time: &mut [u64],
+    parent: &mut [u64],
+    stamp: &mut [u64],
+    q: u64,
+) -> u64
+    requires { ⌜ Going (now low) (now far) steps clocks total × Going (now up) (now far) steps clocks total × Leading (now leads) steps × (q ≤ 2 ^ 36)
+        × Able (total + clocks + 1) (ledSteps (now low) (now up) (now leads) (now far) steps clocks total) (state (now time) (now parent) (now stamp)) q ⌝ }
+    ensures { λ r. ⌜ Approached (total + clocks + 1) (ledSteps (now (low .entry)) (now (up .entry)) (now (leads .entry)) (now (far .entry)) steps clocks total) m q
+        (state (now (time .entry)) (now (parent .entry)) (now (stamp .entry)))
+        (state (now (time .exit)) (now (parent .exit)) (now (stamp .exit))) r ⌝ }
+{
     if TRIES < m {
+        return q;
+    }
+    if led {
+        return approach_led(
+            m,
+            low,
+            up,
+            leads,
+            far,
+            steps,
+            clocks,
+            total,
+            time,
+            parent,
+            stamp,
+            q,
+        );
+    }
+    if m < PLAIN {
         return q;
     }
     if m == TRIES {
@@ -114,6 +224,7 @@ fn approach(
 pub fn passes(
     low: &[u64],
     up: &[u64],
+    leads: &[u64],
     far: &[usize],
     start: Start,
     steps: usize,
@@ -124,20 +235,23 @@ pub fn passes(
     stamp: &mut [u64],
     marks: &mut [u64],
 ) -> usize
-    requires { ⌜ Ready (rows (now low) (now up) (now far) start steps clocks total) (state (now time) (now parent) (now stamp)) (now marks) ⌝ }
-    ensures { λ r. ⌜ Ended (moments (rows (now (low .entry)) (now (up .entry)) (now (far .entry)) start steps clocks total))
-        (constraintsOf (rows (now (low .entry)) (now (up .entry)) (now (far .entry)) start steps clocks total))
+    requires { ⌜ Ready (rows (now low) (now up) (now leads) (now far) start steps clocks total) (state (now time) (now parent) (now stamp)) (now marks) ⌝ }
+    ensures { λ r. ⌜ Ended (moments (rows (now (low .entry)) (now (up .entry)) (now (leads .entry)) (now (far .entry)) start steps clocks total))
+        (constraintsOf (rows (now (low .entry)) (now (up .entry)) (now (leads .entry)) (now (far .entry)) start steps clocks total))
         (state (now (time .entry)) (now (parent .entry)) (now (stamp .entry)))
         (state (now (time .exit)) (now (parent .exit)) (now (stamp .exit))) r ⌝ }
 {
     let n = total + clocks + 1;
+    let led = any_leads(leads, steps);
     let mut q: u64 = 1;
     let mut m: usize = 0;
     while m < n + TRIES {
         let near = approach(
+            led,
             m,
             low,
             up,
+            leads,
             far,
             steps,
             clocks,
@@ -148,8 +262,10 @@ pub fn passes(
             q,
         );
         let swept = pass(
+            led,
             low,
             up,
+            leads,
             far,
             start,
             steps,

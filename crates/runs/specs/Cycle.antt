@@ -54,13 +54,13 @@ tighten P ds p (then {a = a} {b = b} {e = e} l r) =
       less = omega (arith, tight-parts P (t .0) e p (t .1 .least e l), k .less);
     }
 
--- At least two and at most P distinct moments, with a demand from each to the next and from the last to the first, are a
+-- At least one and at most P distinct moments, with a demand from each to the next and from the last to the first, are a
 -- loop if the sum of these demands is negative in P parts.
-pub along-loop : (P : ℕ) (ds : List Demand) (ms : List ℕ) (es : List Demand) → 2 ≤ length ms → length ms ≤ P
+pub along-loop : (P : ℕ) (ds : List Demand) (ms : List ℕ) (es : List Demand) → 1 ≤ length ms → length ms ≤ P
     → Distinct ms → Along (Link ds) ms (getD ms 0 0) es → total (loss P) es < total (gain P) es → Loop ds ms
-along-loop P ds ms es two few distinct links less =
+along-loop P ds ms es some few distinct links less =
     record {
-      size = two;
+      size = some;
       distinct = distinct;
       used = t .used;
       around = t .along;
@@ -100,18 +100,18 @@ along-row ds (a ∷ b ∷ ms) w e p h l =
     (λ k b. h (suc k) (omega arith))
     (λ k b. l (suc k) (omega arith)))
 
--- The moments ms, at least two and at most P, are w 0, w 1, .. and distinct; after the last comes w 0 again; e k is a
+-- The moments ms, at least one and at most P, are w 0, w 1, .. and distinct; after the last comes w 0 again; e k is a
 -- demand from w k to the next, and in P parts these demands gain more than they lose: then ms is a loop.
 pub cycle-loop : (P : ℕ) (ds : List Demand) (ms : List ℕ) (w : ℕ → ℕ) (e : ℕ → Demand)
-    → 2 ≤ length ms → length ms ≤ P
+    → 1 ≤ length ms → length ms ≤ P
     → ((k : ℕ) → k < length ms → getD ms k 0 ≡ w k)
     → ((i j : ℕ) → i < j → j < length ms → w i ≢ w j)
     → w (length ms) ≡ w 0
     → ((k : ℕ) → k < length ms → Link ds (w k) (w (suc k)) (e k))
     → sum (λ k. loss P (e k)) (length ms) < sum (λ k. gain P (e k)) (length ms)
     → Loop ds ms
-cycle-loop P ds ms w e two few at distinct closed links less =
-    along-loop P ds ms (row (length ms) e) two few
+cycle-loop P ds ms w e some few at distinct closed links less =
+    along-loop P ds ms (row (length ms) e) some few
     (λ i j l b q. distinct i j l b (sym (at i (omega arith)) ∙ q ∙ at j b))
     (rw (at 0 (omega arith), ← closed) (along-row ds ms w e (omega arith) at links))
     (omega (arith, total-row (loss P) (length ms) e, total-row (gain P) (length ms) e))

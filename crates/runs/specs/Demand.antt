@@ -4,7 +4,7 @@ use mathlib.Core.List.{List, [], _∷_, _++_, map, List·Memᴰ}
 use Prim.Native.Nat.{ℕ, zero, suc, _+_, _*_, _≤_, _<_}
 use lib.IntN.{ℤ, pos, _-ℤ_}
 use lib.ListN.{length}
-use Rattle.table.specs.Step.{Step}
+use Rattle.table.specs.Step.{Step, upOf, downOf, endOf}
 use Rattle.table.specs.declared.Guard.{Guard}
 use Rattle.table.specs.declared.Relation.{Relation}
 use Rattle.table.specs.declared.Relation.the-variants.{Under, AtMost, Exactly, AtLeast, Over}
@@ -26,25 +26,33 @@ pub record Holds (P : ℕ) (x : ℕ → ℕ) (d : Demand) : Type 0 where
 abbrev pub ticksOf : Demand → ℤ
 ticksOf d = pos (d .up) -ℤ pos (d .down)
 
--- "from a to b of c" and "from a to b of −c"
+-- "from a to b of u − d", "from a to b of c" and "from a to b of −c"
+abbrev pub bounded : ℕ → ℕ → ℕ → ℕ → Bool → Demand
+bounded a b u d strict = record { from = a; to = b; up = u; down = d; strict = strict }
+
 abbrev pub plus : ℕ → ℕ → ℕ → Bool → Demand
-plus a b c strict = record { from = a; to = b; up = c; down = 0; strict = strict }
+plus a b c strict = bounded a b c 0 strict
 
 abbrev pub minus : ℕ → ℕ → ℕ → Bool → Demand
-minus a b c strict = record { from = a; to = b; up = 0; down = c; strict = strict }
+minus a b c strict = bounded a b 0 c strict
 
--- the demands of a guard with constant c at moment i on a clock that was last reset at moment z
-abbrev pub guardDemands : Relation → ℕ → ℕ → ℕ → List Demand
-guardDemands Under c z i = plus z i c true ∷ []
-guardDemands AtMost c z i = plus z i c false ∷ []
-guardDemands Exactly c z i = plus z i c false ∷ minus i z c false ∷ []
-guardDemands AtLeast c z i = minus i z c false ∷ []
-guardDemands Over c z i = minus i z c true ∷ []
+-- the demands of a guard with constant u − d on a clock that was last reset at moment z: e is the step's own moment, or the moment
+-- of the second clock's last reset
+abbrev pub guardDemands : Relation → ℕ → ℕ → ℕ → ℕ → List Demand
+guardDemands Under u d z e = bounded z e u d true ∷ []
+guardDemands AtMost u d z e = bounded z e u d false ∷ []
+guardDemands Exactly u d z e = bounded z e u d false ∷ bounded e z d u false ∷ []
+guardDemands AtLeast u d z e = bounded e z d u false ∷ []
+guardDemands Over u d z e = bounded e z d u true ∷ []
+
+-- those of a guard at moment i, when clock j was last reset at moment z j
+abbrev pub demandsAt : Guard → ℕ → (ℕ → ℕ) → List Demand
+demandsAt g i z = guardDemands (g .relation) (upOf g) (downOf g) (z (g .clock)) (endOf (g .second) i z)
 
 -- the demands of the guards at moment i, in table order, when clock j was last reset at moment z j
 unfoldable pub guardsDemands : List Guard → ℕ → (ℕ → ℕ) → List Demand
 guardsDemands [] i z = []
-guardsDemands (g ∷ gs) i z = guardDemands (g .relation) (g .constant) (z (g .clock)) i ++ guardsDemands gs i z
+guardsDemands (g ∷ gs) i z = demandsAt g i z ++ guardsDemands gs i z
 
 -- the demands of the steps σ that follow moment i, when clock j was last reset at moment z j
 unfoldable pub stepsDemands : List Step → ℕ → (ℕ → ℕ) → List Demand
@@ -115,10 +123,11 @@ pub record Exists (n : ℕ) (D : Starts) (σ : List Step) : Type 0 where
   pub run : Run parts σ moments starts
 
 -- the guards of σ are on clocks 1 to n
+abbrev pub OnClocks : ℕ → Guard → Type 0
+OnClocks n g = (0 < g .clock) × (g .clock ≤ n) × (g .second ≤ n)
+
 abbrev pub Clocks : ℕ → List Step → Type 0
-Clocks n σ =
-    (step : Step) → List·Memᴰ step σ → (g : Guard) → List·Memᴰ g (step .guards)
-    → (0 < g .clock) × (g .clock ≤ n)
+Clocks n σ = (step : Step) → List·Memᴰ step σ → (g : Guard) → List·Memᴰ g (step .guards) → OnClocks n g
 
 -- D's demands for clocks 1 to n are between places 0 to n
 abbrev pub Places : ℕ → Starts → Type 0

@@ -2,12 +2,13 @@
 use mathlib.Core.Path.{_≡_, refl}
 use mathlib.Core.Bool.{false}
 use mathlib.Core.List.{List, [], _∷_, _++_, map, List·Memᴰ·head, List·Memᴰ·tail}
-use Prim.Native.Nat.{ℕ, suc, _+_, _<_}
+use Prim.Native.Nat.{ℕ, zero, suc, _+_, _<_}
 use lib.ListN.{length}
-use Rattle.table.specs.Step.{Step, FairGuard, Fairs}
+use native.Mathlib.Omega.{arith}
+use Rattle.table.specs.Step.{Step, endOf, FairGuard, Fairs}
 use Rattle.table.specs.declared.Guard.{Guard}
 use Rattle.runs.specs.Run.{zeroed}
-use Rattle.runs.specs.Demand.{plus, guardDemands, guardsDemands, stepsDemands}
+use Rattle.runs.specs.Demand.{plus, demandsAt, guardsDemands, stepsDemands}
 use Rattle.runs.specs.Demand.{Starts, moved, startDemands, demands}
 use Rattle.runs.specs.Readings.{zeroed-cases}
 use Rattle.runs.specs.Steps.{fairs-head, fairs-tail}
@@ -37,7 +38,7 @@ unfolding guardsDemands
 guardsDemands-nil i z = refl
 
 pub guardsDemands-cons : (g : Guard) (gs : List Guard) (i : ℕ) (z : ℕ → ℕ)
-    → guardsDemands (g ∷ gs) i z ≡ guardDemands (g .relation) (g .constant) (z (g .clock)) i ++ guardsDemands gs i z
+    → guardsDemands (g ∷ gs) i z ≡ demandsAt g i z ++ guardsDemands gs i z
 unfolding guardsDemands
 guardsDemands-cons g gs i z = refl
 
@@ -55,13 +56,18 @@ startDemands-suc K D j n = refl
 abbrev pub SameResets : (ℕ → ℕ) → (ℕ → ℕ) → Type 0
 SameResets y z = (j : ℕ) → 0 < j → j < 7 → y j ≡ z j
 
+end-resets : (j i : ℕ) (y z : ℕ → ℕ) → j < 7 → SameResets y z → endOf j i y ≡ endOf j i z
+unfolding endOf
+end-resets zero i y z l h = refl
+end-resets (suc j) i y z l h = h (suc j) (omega arith) l
+
 pub guardsDemands-same : (gs : List Guard) (i : ℕ) (y z : ℕ → ℕ) → Every FairGuard gs → SameResets y z
     → guardsDemands gs i y ≡ guardsDemands gs i z
 unfolding guardsDemands
 guardsDemands-same [] i y z f h = refl
 guardsDemands-same (g ∷ gs) i y z f h =
     let k : FairGuard g = f g (List·Memᴰ·head refl) in
-    rw (h (g .clock) (k .first) (k .last), guardsDemands-same gs i y z (λ q m. f q (List·Memᴰ·tail m)) h)
+    rw (h (g .clock) (k .first) (k .last), end-resets (g .second) i y z (k .second) h, guardsDemands-same gs i y z (λ q m. f q (List·Memᴰ·tail m)) h)
 
 pub zeroed-same : (step : Step) (i : ℕ) (y z : ℕ → ℕ) → SameResets y z → SameResets (zeroed step i y) (zeroed step i z)
 zeroed-same step i y z h j p l = zeroed-cases (λ a b. a ≡ b) step i y z j (λ e. refl) (λ e. h j p l)

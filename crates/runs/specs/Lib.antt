@@ -17,7 +17,6 @@ pub mod ExistsSteps
 pub mod Satisfies
 pub mod RowSteps
 pub mod Rows
-pub mod RunReplay
 -- a loop refutes every run, and a negative cycle is a loop
 pub mod Parts
 pub mod Refutes
@@ -26,5 +25,9 @@ pub mod Cycle
 -- the demand order, for programs that list or use it
 pub mod DemandOrder
 pub mod DemandRange
+-- starts that no guard tells apart, and how long they need be
+pub mod Twin
 -- the variants of the start
 pub mod Start
+-- at least two moments in a loop, where every guard is of one clock
+pub mod TwoMoments

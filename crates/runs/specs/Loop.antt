@@ -42,10 +42,10 @@ Negative es =
     (total (λ e. e .up) es < total (λ e. e .down) es)
     ⊎ ((total (λ e. e .up) es ≡ total (λ e. e .down) es) × ((e : Demand) × List·Memᴰ e es × (e .strict ≡ true)))
 
--- A negative cycle (01: loop): a row of at least two distinct moments, with a demand between each and the next and from
+-- A negative cycle (01: loop): a row of at least one moment, all distinct, with a demand between each and the next and from
 -- the last to the first, the tightest there is, and a sum below 0, or of 0 with a strict one among them.
 pub record Loop (ds : List Demand) (ms : List ℕ) : Type 0 where
-  pub size : 2 ≤ length ms
+  pub size : 1 ≤ length ms
   pub distinct : Distinct ms
   pub used : List Demand
   pub around : Along (Tightest ds) ms (getD ms 0 0) used

@@ -10,8 +10,9 @@ use Rattle.table.specs.Step.{Step}
 use Rattle.table.specs.declared.Guard.{Guard}
 use Rattle.runs.specs.Run.{zeroed, Passes, Goes, done, next}
 use Rattle.runs.specs.declared.Demand.{Demand}
-use Rattle.runs.specs.Demand.{Holds, plus, guardsDemands, stepsDemands, Clocks}
-use Rattle.runs.specs.Readings.{ResetAt, met-reading, zeroed-cases}
+use Rattle.runs.specs.Demand.{Holds, plus, guardsDemands, stepsDemands, OnClocks, Clocks}
+use Rattle.runs.specs.Readings.{ResetAt, ReadAt, met-reading, zeroed-cases}
+use Rattle.runs.specs.Steps.{end-map}
 use Rattle.runs.specs.Satisfies.{Satisfies, MetAt, guards-satisfies}
 use Rattle.runs.specs.Tools.{Every, every-nil, every-cons, every-append}
 
@@ -73,13 +74,12 @@ module _ (P n : ℕ) (t s x : ℕ → ℕ) where
         }
 
     -- a guard holds of the reading if and only if it is met by the times
-    guard : (g : Guard) → (0 < g .clock) × (g .clock ≤ n) → MetAt P x (suc i) z g ↔ Passes P t s y (suc i) g
+    guard : (g : Guard) → OnClocks n g → MetAt P x (suc i) z g ↔ Passes P t s y (suc i) g
     guard g h =
-        met-reading (g .relation) (g .constant * P) (x 0) t (s (g .clock)) (y (g .clock)) (x (z (g .clock))) (x (suc i))
-        (suc i)
-        (omega (arith, k .old (g .clock) (h .0) (h .1)))
-        (k .reset (g .clock) (h .0) (h .1))
-        now
+        rw (← end-map x (g .second) (suc i) z)
+        (met-reading n (x 0) t s y (λ j. x (z j)) (x (suc i)) (suc i)
+        (record { now = now; old = λ j p l. omega (arith, k .old j p l); reset = k .reset })
+        P g h)
 
   -- ---- all steps, K in number
   module _ (K : ℕ) (now : (i : ℕ) → i ≤ K → x i ≡ x 0 + t i) where

@@ -3,7 +3,7 @@ use mathlib.Core.Path.{_≡_}
 use mathlib.Core.Bool.{cond}
 use mathlib.Core.List.{List, [], _∷_, _++_, List·Memᴰ}
 use Prim.Native.Nat.{ℕ, zero, suc, _+_, _*_, _-_, _≤_, _<_}
-use Rattle.table.specs.Step.{Step, resets}
+use Rattle.table.specs.Step.{Step, resets, upOf, downOf}
 use Rattle.table.specs.declared.Guard.{Guard}
 use Rattle.table.specs.declared.Relation.{Relation}
 use Rattle.table.specs.declared.Relation.the-variants.{Under, AtMost, Exactly, AtLeast, Over}
@@ -31,9 +31,16 @@ reading t s (suc r) i = t i - t (suc r)
 unfoldable pub zeroed : Step → ℕ → (ℕ → ℕ) → ℕ → ℕ
 zeroed step i z j = cond (resets step j) i (z j)
 
--- a guard (01: bound) holds at moment i: a constant counts ticks, P parts each
+-- the reading at moment i of a guard's second clock, and 0 where it has none
+unfoldable pub secondReading : (ℕ → ℕ) → (ℕ → ℕ) → (ℕ → ℕ) → ℕ → ℕ → ℕ
+secondReading t s z i zero = 0
+secondReading t s z i (suc j) = reading t (s (suc j)) (z (suc j)) i
+
+-- A guard (01: bound) holds at moment i: its clock's reading less that of its second clock is compared with its constant, up − down
+-- ticks of P parts each. What is taken off stands on the other side.
 abbrev pub Passes : ℕ → (ℕ → ℕ) → (ℕ → ℕ) → (ℕ → ℕ) → ℕ → Guard → Type 0
-Passes P t s z i g = Compares (g .relation) (g .constant * P) (reading t (s (g .clock)) (z (g .clock)) i)
+Passes P t s z i g =
+    Compares (g .relation) (secondReading t s z i (g .second) + upOf g * P) (reading t (s (g .clock)) (z (g .clock)) i + downOf g * P)
 
 -- The steps σ go on from moment i, when clock j was last reset at moment z j: moments never decrease, and every guard of
 -- every step holds.

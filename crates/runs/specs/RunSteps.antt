@@ -7,9 +7,9 @@ use native.Mathlib.Omega.{arith}
 use Rattle.table.specs.Step.{Step, Fair, Fairs}
 use Rattle.table.specs.declared.Guard.{Guard}
 use Rattle.runs.specs.Run.{zeroed, Passes, Goes, done, next, Run}
-use Rattle.runs.specs.Steps.{Config, Old, Met, Move, Steps, stay, move, fairs-head, fairs-tail, same-refl}
+use Rattle.runs.specs.Steps.{Config, Old, MetBy, Move, Steps, stay, move, fairs-head, fairs-tail, same-refl}
 use Rattle.runs.specs.Steps.{move-old, after, after-now, after-reset, after-kept}
-use Rattle.runs.specs.Readings.{ResetAt, met-reading, zeroed-cases}
+use Rattle.runs.specs.Readings.{ResetAt, ReadAt, met-reading, zeroed-cases}
 use Rattle.basics.specs.Numbers.{top, top-ge}
 
 -- the configuration u is a start with the readings s
@@ -43,13 +43,15 @@ module _ (P S : ℕ) (t s z : ℕ → ℕ) (i : ℕ) (c : Step) (f : Fair c) (u 
           (λ e. rw (m .kept j p l e) (k .clocks j p l))
 
   -- a guard holds of the reading if and only if it is met by the configurations
-  guard : (g : Guard) → List·Memᴰ g (c .guards) → u 0 ≤ w 0
-      → Met (g .relation) (g .constant * P) (u (g .clock)) (w 0) ↔ Passes P t s z (suc i) g
+  guard : (g : Guard) → List·Memᴰ g (c .guards) → u 0 ≤ w 0 → MetBy P g u (w 0) ↔ Passes P t s z (suc i) g
   guard g m l =
-      met-reading (g .relation) (g .constant * P) S t (s (g .clock)) (z (g .clock)) (u (g .clock)) (w 0) (suc i)
-      (omega (arith, k .old (g .clock) (f .guards g m .last)))
-      (k .clocks (g .clock) (f .guards g m .first) (f .guards g m .last))
-      now
+      met-reading 6 S t s z u (w 0) (suc i)
+      (record {
+        now = now;
+        old = λ j p b. omega (arith, k .old j (omega arith));
+        reset = λ j p b. k .clocks j p (omega arith);
+      })
+      P g (f .guards g m .first, omega (arith, f .guards g m .last), omega (arith, f .guards g m .second))
 
 -- ---- from a run to configurations
 goes-steps : (P S : ℕ) (t s z : ℕ → ℕ) (i : ℕ) (σ : List Step) (u : Config) → Fairs σ → Linked S t s z i u

@@ -6,14 +6,15 @@ use mathlib.Core.List.{List, [], _∷_, _++_, map}
 use Prim.Native.Nat.{ℕ, zero, suc, _+_, _*_, _≤_, _<_}
 use native.Mathlib.Omega.{arith}
 use native.Mathlib.Decide.{ℕ-discrete}
+use Rattle.table.specs.Step.{upOf, downOf, endOf}
 use Rattle.table.specs.declared.Guard.{Guard}
 use Rattle.table.specs.declared.Relation.{Relation}
 use Rattle.table.specs.declared.Relation.the-variants.{Under, AtMost, Exactly, AtLeast, Over}
 use Rattle.runs.specs.declared.Demand.{Demand}
-use Rattle.runs.specs.Demand.{Holds, plus, minus, guardDemands, guardsDemands}
+use Rattle.runs.specs.Demand.{Holds, bounded, plus, guardDemands, demandsAt, guardsDemands}
 use Rattle.runs.specs.Demand.{Starts, moved, startDemands}
 use Rattle.runs.specs.Tools.{Every, every-nil, every-cons, every-append, every-map}
-use Rattle.runs.specs.Steps.{Met}
+use Rattle.runs.specs.Steps.{Met, MetBy}
 
 -- all demands of a list hold of the times x, in P parts to a tick
 abbrev pub Satisfies : ℕ → (ℕ → ℕ) → List Demand → Type 0
@@ -28,26 +29,26 @@ module _ (P : ℕ) (x : ℕ → ℕ) where
   )
 
   -- the demands of a guard say that it is met
-  guard-satisfies : (r : Relation) (c z i : ℕ) → Met r (c * P) (x z) (x i) ↔ Satisfies P x (guardDemands r c z i)
-  guard-satisfies Under c z i = only (plus z i c true) (λ m. omega arith) (λ h. omega arith)
-  guard-satisfies AtMost c z i = only (plus z i c false) (λ m. omega arith) (λ h. omega arith)
-  guard-satisfies Exactly c z i = (
+  guard-satisfies : (r : Relation) (u d z e : ℕ) → Met r (u * P) (x z) (x e + d * P) ↔ Satisfies P x (guardDemands r u d z e)
+  guard-satisfies Under u d z e = only (bounded z e u d true) (λ m. omega arith) (λ h. omega arith)
+  guard-satisfies AtMost u d z e = only (bounded z e u d false) (λ m. omega arith) (λ h. omega arith)
+  guard-satisfies Exactly u d z e = (
     (λ m. pair .1 (omega arith, least .0 (omega arith))),
     λ h. omega (arith, pair .0 h .0, least .1 (pair .0 h .1)),
   )
     where
-      pair : Satisfies P x (plus z i c false ∷ minus i z c false ∷ [])
-          ↔ (Holds P x (plus z i c false) × Satisfies P x (minus i z c false ∷ []))
-      pair = every-cons (Holds P x) (plus z i c false) (minus i z c false ∷ [])
+      pair : Satisfies P x (bounded z e u d false ∷ bounded e z d u false ∷ [])
+          ↔ (Holds P x (bounded z e u d false) × Satisfies P x (bounded e z d u false ∷ []))
+      pair = every-cons (Holds P x) (bounded z e u d false) (bounded e z d u false ∷ [])
 
-      least : Holds P x (minus i z c false) ↔ Satisfies P x (minus i z c false ∷ [])
-      least = only (minus i z c false) (λ h. h) (λ h. h)
-  guard-satisfies AtLeast c z i = only (minus i z c false) (λ m. omega arith) (λ h. omega arith)
-  guard-satisfies Over c z i = only (minus i z c true) (λ m. omega arith) (λ h. omega arith)
+      least : Holds P x (bounded e z d u false) ↔ Satisfies P x (bounded e z d u false ∷ [])
+      least = only (bounded e z d u false) (λ h. h) (λ h. h)
+  guard-satisfies AtLeast u d z e = only (bounded e z d u false) (λ m. omega arith) (λ h. omega arith)
+  guard-satisfies Over u d z e = only (bounded e z d u true) (λ m. omega arith) (λ h. omega arith)
 
   -- a guard is met at moment i, z j being the moment of clock j's last reset
   abbrev pub MetAt : ℕ → (ℕ → ℕ) → Guard → Type 0
-  MetAt i z g = Met (g .relation) (g .constant * P) (x (z (g .clock))) (x i)
+  MetAt i z g = Met (g .relation) (upOf g * P) (x (z (g .clock))) (x (endOf (g .second) i z) + downOf g * P)
 
   -- the demands of the guards of a step say that all of them are met
   pub guards-satisfies : (gs : List Guard) (i : ℕ) (z : ℕ → ℕ)
@@ -57,10 +58,10 @@ module _ (P : ℕ) (x : ℕ → ℕ) where
   guards-satisfies (g ∷ gs) i z = go (guards-satisfies gs i z)
     where
       ds : List Demand
-      ds = guardDemands (g .relation) (g .constant) (z (g .clock)) i
+      ds = demandsAt g i z
 
       one : MetAt i z g ↔ Satisfies P x ds
-      one = guard-satisfies (g .relation) (g .constant) (z (g .clock)) i
+      one = guard-satisfies (g .relation) (upOf g) (downOf g) (z (g .clock)) (endOf (g .second) i z)
 
       met : Every (MetAt i z) (g ∷ gs) ↔ (MetAt i z g × Every (MetAt i z) gs)
       met = every-cons (MetAt i z) g gs

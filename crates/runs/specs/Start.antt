@@ -1,6 +1,5 @@
 -- The variants of the start: their demands bound the starting readings from above, and all readings 0 meet them.
 use mathlib.Core.Path.{_≡_, refl}
-use mathlib.Core.Logic.{inl}
 use mathlib.Core.Bool.{false}
 use mathlib.Core.List.{List, [], _∷_, List·Memᴰ, List·Memᴰ·head, List·Memᴰ·not-nil}
 use Prim.Native.Nat.{ℕ, zero, suc, _+_, _*_, _≤_, _<_}
@@ -9,7 +8,7 @@ use Rattle.runs.specs.declared.Demand.{Demand}
 use Rattle.runs.specs.declared.Start.{Start}
 use Rattle.runs.specs.declared.Start.the-variants.{LogIn, MidShift}
 use Rattle.runs.specs.Demand.{plus, Starts, anyStarts, zeroStarts, startsOf, Suits, Allowed, Places}
-use Rattle.runs.specs.Allowed.{Plain, any-allowed}
+use Rattle.runs.specs.Allowed.{any-allowed}
 use Rattle.runs.specs.DemandRange.{Proper, plus-proper, any-proper}
 use Rattle.runs.specs.Tools.{Every, every-nil, every-cons}
 
@@ -18,14 +17,12 @@ use Rattle.runs.specs.Tools.{Every, every-nil, every-cons}
 pub record Upper (n : ℕ) (D : Starts) : Type 0 where
   pub proper : (j : ℕ) → 0 < j → j ≤ n → Every (Proper n) (D j)
   pub ends : (j : ℕ) → 0 < j → j ≤ n → (d : Demand) → List·Memᴰ d (D j) → d .to ≡ 0
+  pub begins : (j : ℕ) → 0 < j → j ≤ n → (d : Demand) → List·Memᴰ d (D j) → 0 < d .from
   pub zero : (P : ℕ) → Allowed P D n (λ j. 0)
 
 module _ (n : ℕ) (D : Starts) (u : Upper n D) where
   pub upper-places : Places n D
   upper-places j p l d m = (u .proper j p l d m .from, u .proper j p l d m .to)
-
-  pub upper-plain : Plain n D
-  upper-plain j p l d m = inl (u .ends j p l d m)
 
 -- ---- each variant is such
 
@@ -34,6 +31,7 @@ unfolding anyStarts
 any-upper n = record {
   proper = λ j p l. any-proper n j;
   ends = λ j p l d m. absurd (List·Memᴰ·not-nil m);
+  begins = λ j p l d m. absurd (List·Memᴰ·not-nil m);
   zero = λ P. any-allowed P n (λ j. 0);
 }
 
@@ -48,8 +46,9 @@ zero-suits P (suc j) = omega arith
 
 zero-upper : (n : ℕ) → Upper n zeroStarts
 zero-upper n = record {
-  proper = λ j p l. zero-each (Proper n) j (plus-proper n j 0 0 false l (omega arith) (omega arith) (omega arith));
+  proper = λ j p l. zero-each (Proper n) j (plus-proper n j 0 0 false l (omega arith) (omega arith));
   ends = λ j p l. zero-each (λ d. d .to ≡ 0) j refl;
+  begins = λ j p l. zero-each (λ d. 0 < d .from) j p;
   zero = λ P. record { allowed = λ j p l. zero-each (Suits P (λ i. 0)) j (zero-suits P j) };
 }
 

@@ -7,7 +7,7 @@ use Prim.Native.Nat.{ℕ, zero, suc, _+_, _*_, _≤_, _<_}
 use native.Mathlib.Omega.{arith}
 use native.Mathlib.Nat.{mul-le-mul-left}
 use lib.ListN.{length}
-use Rattle.table.specs.Step.{Step, resets, Fair, Fairs}
+use Rattle.table.specs.Step.{Step, resets, upOf, downOf, endOf, Fair, Fairs}
 use Rattle.table.specs.declared.Guard.{Guard}
 use Rattle.table.specs.declared.Relation.{Relation}
 use Rattle.table.specs.declared.Relation.the-variants.{Under, AtMost, Exactly, AtLeast, Over}
@@ -36,11 +36,16 @@ Meets Over c z t = z + c < t
 pub record Met (r : Relation) (c z t : ℕ) : Type 0 where
   pub met : Meets r c z t
 
+-- A guard is met at time t, when u j is the time of clock j's last reset: the time it is compared with is t, or that of the second
+-- clock's last reset, and what its constant takes off stands on the other side.
+abbrev pub MetBy : ℕ → Guard → (ℕ → ℕ) → ℕ → Type 0
+MetBy P g u t = Met (g .relation) (upOf g * P) (u (g .clock)) (endOf (g .second) t u + downOf g * P)
+
 -- one step, at time v 0, in P parts to a tick
 pub record Move (P : ℕ) (s : Step) (u v : Config) : Type 0 where
   pub later : u 0 ≤ v 0
   pub old : Old u
-  pub guarded : (g : Guard) → List·Memᴰ g (s .guards) → Met (g .relation) (g .constant * P) (u (g .clock)) (v 0)
+  pub guarded : (g : Guard) → List·Memᴰ g (s .guards) → MetBy P g u (v 0)
   pub reset : (j : ℕ) → 0 < j → j < 7 → resets s j ≡ true → v j ≡ v 0
   pub kept : (j : ℕ) → 0 < j → j < 7 → resets s j ≡ false → v j ≡ u j
 
@@ -60,12 +65,24 @@ fairs-tail f c i = f c (List·Memᴰ·tail i)
 pub same-refl : (u : Config) → Same u u
 same-refl u a l = refl
 
+-- the end of a guard's bound is the same, if the times are
+pub end-equal : (j t r : ℕ) (u x : ℕ → ℕ) → t ≡ r → (0 < j → u j ≡ x j) → endOf j t u ≡ endOf j r x
+unfolding endOf
+end-equal zero t r u x f e = f
+end-equal (suc j) t r u x f e = e (omega arith)
+
+pub end-same : (j : ℕ) {u x : Config} {t r : ℕ} → j < 7 → Same u x → t ≡ r → endOf j t u ≡ endOf j r x
+unfolding endOf
+end-same zero l e f = f
+end-same (suc j) l e f = e (suc j) l
+
 pub move-same : (P : ℕ) (s : Step) {u v x y : Config} → Fair s → Same u x → Same v y → Move P s u v → Move P s x y
 move-same P s f e h m =
     record {
       later = omega (arith, e 0 (omega arith), h 0 (omega arith), m .later);
       old = λ j l. omega (arith, e 0 (omega arith), e j l, m .old j l);
-      guarded = λ g i. rw (← e (g .clock) (f .guards g i .last), ← h 0 (omega arith)) (m .guarded g i);
+      guarded = λ g i.
+          rw (← e (g .clock) (f .guards g i .last), ← end-same (g .second) (f .guards g i .second) e (h 0 (omega arith))) (m .guarded g i);
       reset = λ j p l r. omega (arith, h 0 (omega arith), h j l, m .reset j p l r);
       kept = λ j p l r. omega (arith, e j l, h j l, m .kept j p l r);
     }
@@ -137,8 +154,7 @@ after-kept s t u (suc j) h e = rw e
 -- ---- a map of the times that keeps their order and the guards met
 pub record Keeps (Q : ℕ) (φ : ℕ → ℕ) (s : Step) (u v : Config) : Type 0 where
   pub mono : (a b : ℕ) → a ≤ b → φ a ≤ φ b
-  pub meets : (g : Guard) → List·Memᴰ g (s .guards)
-      → Met (g .relation) (g .constant * Q) (φ (u (g .clock))) (φ (v 0))
+  pub meets : (g : Guard) → List·Memᴰ g (s .guards) → MetBy Q g (λ a. φ (u a)) (φ (v 0))
 
 -- Such a map of the times makes a step of a step.
 pub move-map : (P Q : ℕ) (φ : ℕ → ℕ) (s : Step) {u v : Config} → Keeps Q φ s u v
@@ -153,13 +169,19 @@ move-map P Q φ s k m =
     }
 
 -- ---- scale and shift in one
-met-affine : (r : Relation) (a h c P z t : ℕ) → 0 < a
-    → Met r (c * P) z t → Met r (c * (a * P)) (a * z + h) (a * t + h)
-met-affine Under a h c P z t p m = omega (arith, mul-le-mul-left a (m .met))
-met-affine AtMost a h c P z t p m = omega (arith, mul-le-mul-left a (m .met))
-met-affine Exactly a h c P z t p m = omega (arith, ap (λ n. a * n) (m .met))
-met-affine AtLeast a h c P z t p m = omega (arith, mul-le-mul-left a (m .met))
-met-affine Over a h c P z t p m = omega (arith, mul-le-mul-left a (m .met))
+met-affine : (r : Relation) (a h c d P z t : ℕ) → 0 < a
+    → Met r (c * P) z (t + d * P) → Met r (c * (a * P)) (a * z + h) (a * t + h + d * (a * P))
+met-affine Under a h c d P z t p m = omega (arith, mul-le-mul-left a (m .met))
+met-affine AtMost a h c d P z t p m = omega (arith, mul-le-mul-left a (m .met))
+met-affine Exactly a h c d P z t p m = omega (arith, ap (λ n. a * n) (m .met))
+met-affine AtLeast a h c d P z t p m = omega (arith, mul-le-mul-left a (m .met))
+met-affine Over a h c d P z t p m = omega (arith, mul-le-mul-left a (m .met))
+
+-- a map of the times maps the end of a bound
+pub end-map : (φ : ℕ → ℕ) (j t : ℕ) (u : Config) → endOf j (φ t) (λ a. φ (u a)) ≡ φ (endOf j t u)
+unfolding endOf
+end-map φ zero t u = refl
+end-map φ (suc j) t u = refl
 
 -- Steps in P parts are steps in a * P parts, all times multiplied by a and shifted by h.
 pub steps-affine : (P a h : ℕ) {σ : List Step} {u v : Config} → 0 < a
@@ -172,5 +194,7 @@ steps-affine P a h p (move {s = s} {u = u} {w = w} m r) =
     keeps =
         record {
           mono = λ b c l. omega (arith, mul-le-mul-left a l);
-          meets = λ g i. met-affine (g .relation) a h (g .constant) P _ _ p (m .guarded g i);
+          meets = λ g i.
+              rw (end-map (λ n. a * n + h) (g .second) (w 0) u)
+              (met-affine (g .relation) a h (upOf g) (downOf g) P _ _ p (m .guarded g i));
         }

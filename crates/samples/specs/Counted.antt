@@ -4,6 +4,7 @@ use mathlib.Core.Bool.{Bool, true, false, _&&_, false≢true}
 use mathlib.Core.List.{List, [], _∷_, List·Memᴰ}
 use Prim.Native.Nat.{_<_}
 use native.Mathlib.Omega.{arith}
+use Rattle.table.specs.Step.{upOf, downOf, endOf}
 use Rattle.runs.specs.Run.{zeroed, copies}
 use Rattle.runs.specs.Demand.{plus, minus, guardsDemands, stepsDemands}
 use Rattle.runs.specs.Demand.{anyStarts, zeroStarts, startsOf, startDemands, demands}
@@ -109,7 +110,7 @@ each-is (s ∷ ss) (e ∷ es) h =
 computed : each samples evidence ≡ true
 unfolding each shown samples evidence accepts tells all some below
     recordsFrom isFree marked headed guarded cleared finished ended wholeOf judgeOf checkOf readOf stepsIn listing guardsOf flagged stepOf
-    zeroed copies guardsDemands stepsDemands anyStarts zeroStarts startDemands demands
+    upOf downOf endOf zeroed copies guardsDemands stepsDemands anyStarts zeroStarts startDemands demands
     atMost same old may after walks end begins alike leads contradicts runs repeats
 computed = refl
 

@@ -144,9 +144,9 @@ module _ (P : ℕ) (ds : List Demand) where
           more = omega (arith, r .more);
         }
 
--- At least two distinct moments, and the tightest demands between them, which gain more than they lose in as many parts.
+-- At least one moment, all of them distinct, and the tightest demands between them, which gain more than they lose in as many parts.
 unfoldable pub isLoop : List Demand → List ℕ → List ℤ → Bool
-isLoop ds ms cs = leb 2 (length ms) && (apart ms && gains (length ms) ds (getD ms 0 0) ms cs 0 0)
+isLoop ds ms cs = leb 1 (length ms) && (apart ms && gains (length ms) ds (getD ms 0 0) ms cs 0 0)
 
 -- Moments and bounds that pass are a loop and the bounds of its demands.
 pub loop-sound : (ds : List Demand) (ms : List ℕ) (cs : List ℤ) → isLoop ds ms cs ≡ true → LoopIs ds ms cs
@@ -157,7 +157,7 @@ loop-sound ds ms cs e =
     let r = gains-more (length ms) ds (getD ms 0 0) ms cs 0 0 more in
     record {
       loop = record {
-        size = leb-true 2 (length ms) size;
+        size = leb-true 1 (length ms) size;
         distinct = apart-distinct ms distinct;
         used = r .used;
         around = r .along;

@@ -15,17 +15,17 @@ use Rattle.runs.specs.Satisfies.{Satisfies}
 use Rattle.runs.specs.Rows.{Row, run-satisfies, rowAt, row-is, run-row}
 use Rattle.basics.specs.Numbers.{top, top-ge}
 use Rattle.plan.specs.Planned.{Planned}
-use Rattle.samples.specs.Checks.{both, all, all-every, below, below-each}
+use Rattle.samples.specs.Checks.{both, three, all, all-every, below, below-each}
 use Rattle.samples.specs.Tight.{solves, solves-satisfies, held, held-first, pinned, pinned-last}
 
 -- all guards are on clocks 1 to n
 abbrev pub clocked : ℕ → List Step → Bool
-clocked n σ = all (λ c. all (λ g. ltb 0 (g .clock) && leb (g .clock) n) (c .guards)) σ
+clocked n σ = all (λ c. all (λ g. ltb 0 (g .clock) && leb (g .clock) n && leb (g .second) n) (c .guards)) σ
 
 pub clocked-clocks : (n : ℕ) (σ : List Step) → clocked n σ ≡ true → Clocks n σ
 clocked-clocks n σ e c m g i =
-    let (low, high) = both (all-every _ (c .guards) (all-every _ σ e c m) g i) in
-    (ltb-true 0 (g .clock) low, leb-true (g .clock) n high)
+    let (low, high, second) = three (all-every _ (c .guards) (all-every _ σ e c m) g i) in
+    (ltb-true 0 (g .clock) low, leb-true (g .clock) n high, leb-true (g .second) n second)
 
 -- a row of times of the moments t and starts s, with moment 0 at S
 abbrev pub times : ℕ → ℕ → (ℕ → ℕ) → (ℕ → ℕ) → ℕ → ℕ

@@ -6,7 +6,7 @@ use Prim.Native.Nat.{ℕ, _+_, _*_}
 use lib.Dec.{eqb}
 use lib.ListN.{length}
 use borrow.Author.Tests.{eqb-true}
-use Rattle.table.specs.Step.{Step}
+use Rattle.table.specs.Step.{Step, upOf, downOf, endOf}
 use Rattle.wire.specs.Records.{recordsFrom}
 use Rattle.wire.specs.Listing.{listing, stepsIn, stepOf, guardsOf, flagged}
 use Rattle.runs.specs.Run.{copies, zeroed}
@@ -53,7 +53,7 @@ tested s = all (test (clocksOf (s .bytes)) (startsOf (s .start)) (cycleOf (s .by
 
 -- the whole list passes, by computation
 pass : all tested samples ≡ true
-unfolding samples recordsFrom listing stepsIn stepOf guardsOf flagged copies zeroed
+unfolding samples recordsFrom listing stepsIn stepOf guardsOf flagged upOf downOf endOf copies zeroed
     anyStarts zeroStarts demands stepsDemands guardsDemands startDemands
     top all some below held isPlan apart gains isLoop
 pass = refl

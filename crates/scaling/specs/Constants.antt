@@ -1,5 +1,6 @@
 -- A table whose guards have the constants of a row, in table order; and that of the scaled row.
 use mathlib.Core.Path.{_≡_, refl, ap, _∙_}
+use mathlib.Core.Bool.{false}
 use mathlib.Core.List.{List, [], _∷_, map}
 use Prim.Native.Nat.{ℕ, zero, suc, _+_, _*_, _-_, _≤_, _<_}
 use native.Mathlib.Omega.{arith}
@@ -13,7 +14,8 @@ use Rattle.scaling.specs.Scaled.{most, scaled-most, guardsIn, constantAt
 
 -- a guard with another constant
 abbrev pub withConstant : ℕ → Guard → Guard
-withConstant c g = record { clock = g .clock; relation = g .relation; constant = c }
+withConstant c g =
+    record { clock = g .clock; second = g .second; relation = g .relation; minus = g .minus; constant = c }
 
 -- guards with the constants of a row
 unfoldable pub withConstants : List ℕ → List Guard → List Guard
@@ -97,7 +99,7 @@ module _ (P : ℕ) (t : Table) (good : Good t) where
       omega (arith, scaled-at P t i (omega (arith, step-end k l)) inside, scaled-most (constantAt t i) P (omega (arith, is, fair .small)) few)
     where
       unread : Guard
-      unread = record { clock = 0; relation = Under; constant = 0 }
+      unread = record { clock = 0; second = 0; relation = Under; minus = false; constant = 0 }
 
       inside : i < 64
       inside = omega (arith, step-end k l, room)

@@ -109,13 +109,13 @@ module _ (step : ℕ) (readings : List ℕ) (ticks : ℕ) where
   -- ---- record by record
 
   -- what an entry's record says
-  says : (r : Record) (e : Entry) → r ≡ entryAt (r .place) e → contentOf r ≡ entry e
-  says r e shape = ap contentOf shape ∙ content-entry (r .place) e
+  says : (n : ℕ) (r : Record) (e : Entry) → r ≡ entryAt (r .place) e → LegalEntry n e → contentOf r ≡ entry e
+  says n r e shape legal = ap contentOf shape ∙ content-entry n (r .place) e legal
 
   -- the steps that records finish, by the first of these
-  entry-steps : (begun : List Entry) (r : Record) (rs : List Record) (x : Entry) → r ≡ entryAt (r .place) x
+  entry-steps : (n : ℕ) (begun : List Entry) (r : Record) (rs : List Record) (x : Entry) → r ≡ entryAt (r .place) x → LegalEntry n x
       → stepsIn begun (r ∷ rs) ≡ stepsIn (begun ++ (x ∷ [])) rs
-  entry-steps begun r rs x shape = ap (λ y. stepsIn begun (y ∷ rs)) shape ∙ steps-entry begun (r .place) x rs
+  entry-steps n begun r rs x shape legal = ap (λ y. stepsIn begun (y ∷ rs)) shape ∙ steps-entry begun n (r .place) x rs legal
 
   finish-steps : (begun : List Entry) (r : Record) (rs : List Record) → r ≡ finishAt (r .place)
       → stepsIn begun (r ∷ rs) ≡ begun ∷ stepsIn [] rs
@@ -143,9 +143,9 @@ module _ (step : ℕ) (readings : List ℕ) (ticks : ℕ) where
       go rest (is-refused _) = refl
       go rest (is-end _ _ _ _) = refl
       go rest (is-head m first _ _ _) = absurd (omega (arith, here .from, first))
-      go rest (is-entry e _ shape _ _ more) =
+      go rest (is-entry e _ shape legal _ more) =
           ap (λ q. followed step readings ticks (entered t e) q rs)
-          (ap (noted step readings ticks t p) (says r e shape) ∙ entry-off t p e off)
+          (ap (noted step readings ticks t p) (says (t .clocks) r e shape legal) ∙ entry-off t p e off)
           ∙ rest (entered t e) p more off gone
       go rest (is-finish _ shape _) =
           ap (λ q. followed step readings ticks (stepped t (t .guards)) q rs)
@@ -260,8 +260,8 @@ module _ (step : ℕ) (readings : List ℕ) (ticks : ℕ) where
           go rest (is-end _ _ _ _) q = absurd (at-end t rs (omega (arith, w .here)) q)
           go rest (is-entry x _ shape legal _ more) q =
               subst₂ Found
-              (ap (λ c. followed step readings ticks (entered t x) (noted step readings ticks t p c) rs) (sym (says r x shape)))
-              (ap (λ ss. getD ss 0 []) (sym (entry-steps begun r rs x shape)))
+              (ap (λ c. followed step readings ticks (entered t x) (noted step readings ticks t p c) rs) (sym (says (t .clocks) r x shape legal)))
+              (ap (λ ss. getD ss 0 []) (sym (entry-steps (t .clocks) begun r rs x shape legal)))
               (rest (entered t x) (noted step readings ticks t p (entry x)) (begun ++ (x ∷ [])) more (way-entry t begun p x legal w) q)
           go rest (is-finish _ shape _) q =
               subst₂ Found
@@ -314,8 +314,8 @@ module _ (step : ℕ) (readings : List ℕ) (ticks : ℕ) where
           go i ahead rest (is-entry x _ shape legal _ more) q =
               subst₂ Found
               (ap (λ c. followed step readings ticks (entered t x) c rs)
-              (sym (ap (noted step readings ticks t p) (says r x shape) ∙ entry-off t p x off)))
-              (ap (λ ss. getD ss (suc i) []) (sym (entry-steps begun r rs x shape)))
+              (sym (ap (noted step readings ticks t p) (says (t .clocks) r x shape legal) ∙ entry-off t p x off)))
+              (ap (λ ss. getD ss (suc i) []) (sym (entry-steps (t .clocks) begun r rs x shape legal)))
               (rest (entered t x) p (begun ++ (x ∷ [])) i more clocks off none ahead q)
           go zero ahead rest (is-finish _ shape _) q =
               subst₂ Found

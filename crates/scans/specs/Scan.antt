@@ -24,7 +24,7 @@ logIn counter = record { step = 1; readings = replicate 6 0; counter = counter }
 unfoldable pub aged : ℕ → ℕ → List ℕ → List ℕ
 aged n ticks r = tab (λ i. cond (ltb i n) (laterOf (getD r i 0) ticks) (getD r i 0)) 6
 
--- whether a reading stands to a constant as a relation says, and so whether a guard (01: bound) holds
+-- whether a reading stands to a constant as a relation says
 abbrev pub compares : Relation → ℕ → ℕ → Bool
 compares Under constant reading = ltb reading constant
 compares AtMost constant reading = leb reading constant
@@ -32,6 +32,7 @@ compares Exactly constant reading = eqb reading constant
 compares AtLeast constant reading = leb constant reading
 compares Over constant reading = ltb constant reading
 
+-- so whether a guard (01: bound) of one clock holds; a scan judges no others
 abbrev pub holds : Guard → List ℕ → Bool
 holds g r = compares (g .relation) (g .constant) (getD r (g .clock - 1) 0)
 

@@ -1,13 +1,14 @@
 -- A run with more steps at its end, and a shift with one more accepted scan.
-use mathlib.Core.Path.{_≡_, refl, ap, ap₂, subst, sym, _∙_}
+use mathlib.Core.Path.{_≡_, refl, ap, ap₂, subst, subst₂, sym, _∙_}
 use mathlib.Core.List.{List, [], _∷_, _++_}
 use Prim.Native.Nat.{ℕ, zero, suc, _+_, _*_, _%_, _≤_, _<_}
 use native.Mathlib.Omega.{arith}
 use native.Mathlib.Nat.{mul-le-mul-left}
 use lib.ListN.{length, getD, take, length-append, List·getD-append}
 use lib.Seq.{length-take-le, take-suc, take-append-le, take-at, getD-append-seam}
-use Rattle.table.specs.Step.{Step}
-use Rattle.runs.specs.Run.{copies, Compares, reading, zeroed, Goes, done, next, Run}
+use Rattle.table.specs.Step.{Step, upOf, downOf}
+use Rattle.table.specs.declared.Guard.{Guard}
+use Rattle.runs.specs.Run.{copies, Compares, reading, secondReading, Passes, zeroed, Goes, done, next, Run}
 use Rattle.runs.specs.Readings.{zeroed-cases}
 use Rattle.runs.specs.Copies.{copies-split, length-copies, copies-at}
 use Rattle.runs.specs.Tools.{Every}
@@ -45,6 +46,17 @@ reading-same : (t u : ℕ → ℕ) (s r i : ℕ) → t r ≡ u r → t i ≡ u i
 reading-same t u s zero i a b = omega arith
 reading-same t u s (suc r) i a b = omega arith
 
+-- so a guard that holds of some times holds of others that are the same at its moments
+passes-same : (P : ℕ) (t u s z : ℕ → ℕ) (i : ℕ) → ((j : ℕ) → t (z j) ≡ u (z j)) → t i ≡ u i → (g : Guard)
+    → Passes P t s z i g → Passes P u s z i g
+passes-same P t u s z i h e g =
+    subst₂ (λ a b. Compares (g .relation) (a + upOf g * P) (b + downOf g * P)) (second (g .second))
+    (reading-same t u (s (g .clock)) (z (g .clock)) i (h (g .clock)) e)
+  where
+    second : (j : ℕ) → secondReading t s z i j ≡ secondReading u s z i j
+    second zero = unfold secondReading in refl
+    second (suc j) = unfold secondReading in reading-same t u (s (suc j)) (z (suc j)) i (h (suc j)) e
+
 -- No time after the last step matters.
 goes-same : (P : ℕ) (t u s : ℕ → ℕ) {σ : List Step} {i : ℕ} {z : ℕ → ℕ} → ((j : ℕ) → z j ≤ i)
     → ((k : ℕ) → k ≤ i + length σ → t k ≡ u k) → Goes P t s σ i z → Goes P u s σ i z
@@ -52,8 +64,7 @@ goes-same P t u s h e done = done
 goes-same P t u s h e (next {step = c} {i = i} {z = z} l g r) =
     next
     later
-    (λ q m. subst (Compares (q .relation) (q .constant * P))
-    (reading-same t u (s (q .clock)) (z (q .clock)) (suc i) (e (z (q .clock)) (omega (arith, h (q .clock)))) new) (g q m))
+    (λ q m. passes-same P t u s z (suc i) (λ j. e (z j) (omega (arith, h j))) new q (g q m))
     (goes-same P t u s (zeroed-early c i z h) (λ k b. e k (omega arith)) r)
   where
     new : t (suc i) ≡ u (suc i)

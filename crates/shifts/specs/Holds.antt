@@ -15,7 +15,7 @@ use Rattle.wire.specs.Records.{Bytes}
 use Rattle.wire.specs.Reading.{readOf}
 use Rattle.wire.specs.Listing.{listing, stepOf}
 use Rattle.format.specs.Accepted.{Written, accepted-written}
-use Rattle.format.specs.Fair.{legal-clocks, legal-fair}
+use Rattle.format.specs.Fair.{legal-plain, legal-clocks, legal-fair}
 use Rattle.runs.specs.Run.{Run}
 use Rattle.runs.specs.Start.{start-upper}
 use Rattle.runs.specs.Tools.{Every}
@@ -118,6 +118,7 @@ module _ (bytes : List ℕ) (h : Bytes bytes) (n L g : ℕ) (e : readOf bytes �
         some = omega (arith, size, written .steps, written .legal .steps-some);
         fair = legal-fair (listing bytes) (written .legal);
         clocks = rw (written .clocks) (legal-clocks (listing bytes) (written .legal));
+        plain = legal-plain (listing bytes) (written .legal);
       }
 
   module _ (first : ℕ) where

@@ -1,6 +1,6 @@
 -- What log-in and every scan keep, for a table with the steps σ and n clocks.
 use mathlib.Core.Path.{_≡_, refl, ap, ap₂, subst₂, sym, _∙_}
-use mathlib.Core.Logic.{_↔_}
+use mathlib.Core.Logic.{_↔_, Iff·trans, Iff·symm}
 use mathlib.Core.Bool.{true}
 use mathlib.Core.List.{List, [], _∷_, _++_, List·Memᴰ}
 use Prim.Native.Nat.{ℕ, zero, suc, _+_, _*_, _-_, _%_, _≤_, _<_}
@@ -9,12 +9,13 @@ use native.Mathlib.Decide.{ℕ-discrete}
 use native.Mathlib.Nat.{zero-mod, mod-lt, mod-eq-of-lt, mod-self, suc-mod}
 use lib.ListN.{length, getD, length-append, getD-replicate}
 use borrow.Author.Tests.{eq-eqb, ne-eqb}
-use Rattle.table.specs.Step.{Step, Fairs}
+use Rattle.table.specs.Step.{Step, Plain, Fairs}
+use Rattle.table.specs.declared.Guard.{Guard}
 use Rattle.table.specs.Steps.{member-at}
 use Rattle.ticks.specs.Ticks.{elapsedOf, held, laterOf, counterAt, elapsed-passed}
 use Rattle.runs.specs.Run.{Compares, reading, zeroed, Run, done}
-use Rattle.runs.specs.Demand.{Clocks}
-use Rattle.runs.specs.Readings.{zeroed-cases}
+use Rattle.runs.specs.Demand.{OnClocks, Clocks}
+use Rattle.runs.specs.Readings.{passes-plain, zeroed-cases}
 use Rattle.runs.specs.Tools.{Every}
 use Rattle.scans.specs.declared.Running.{Running}
 use Rattle.scans.specs.declared.Scanned.{Scanned}
@@ -26,12 +27,13 @@ use Rattle.shifts.specs.Grown.{moments-before, moments-new, last-new, la
 use Rattle.shifts.specs.Held.{compares-held, held-later, cleared-reset, cleared-kept}
 use Rattle.shifts.specs.Held.{Tells, none-failing}
 
--- A table with the steps σ is within the limits, and its guards are on clocks 1 to n.
+-- A table with the steps σ is within the limits, and each of its guards is on one of the clocks 1 to n.
 pub record Limits (σ : List Step) (n : ℕ) : Type 0 where
   pub few : n ≤ 6
   pub some : 0 < length σ
   pub fair : Fairs σ
   pub clocks : Clocks n σ
+  pub plain : (step : Step) → List·Memᴰ step σ → (g : Guard) → List·Memᴰ g (step .guards) → Plain g
 
 -- the true reading of clock j at time t, after scans accepted at some times
 abbrev pub since : List Step → List ℕ → ℕ → ℕ → ℕ
@@ -131,12 +133,14 @@ module _ (σ : List Step) (n first : ℕ) (w : Limits σ n) where
       -- so they tell of each guard whether it holds
       pub kept-tells : Tells (HoldsAt σ (s .times) t) readings (dueStep .guards)
       kept-tells g m =
-          subst₂ (λ x y. (compares (g .relation) (g .constant) x ≡ true) ↔ Compares (g .relation) (g .constant * 1) y)
+          Iff·trans
+          (subst₂ (λ x y. (compares (g .relation) (g .constant) x ≡ true) ↔ Compares (g .relation) (g .constant * 1) y)
           (sym (readings-held (g .clock - 1) (omega (arith, on .0, on .1)) ∙ ap (λ j. held (since σ (s .times) j t)) (omega (arith, on .0))))
           (sym (true-reading (g .clock)))
-          (compares-held (g .relation) (g .constant) (since σ (s .times) (g .clock) t) (w .fair dueStep due-member .guards g m .small))
+          (compares-held (g .relation) (g .constant) (since σ (s .times) (g .clock) t) (w .fair dueStep due-member .guards g m .small)))
+          (Iff·symm (passes-plain 1 _ noReading (lastReset σ (s .times)) (suc (length (s .times))) g (w .plain dueStep due-member g m)))
         where
-          on : (0 < g .clock) × (g .clock ≤ n)
+          on : OnClocks n g
           on = w .clocks dueStep due-member g m
 
       -- An accepted scan keeps it.

@@ -13,8 +13,8 @@ use Rattle.table.specs.Steps.{guard-fair}
 use Rattle.table.specs.declared.Guard.{Guard}
 use Rattle.table.specs.declared.Table.{Table}
 use Rattle.scaling.specs.Constants.{withConstant, withConstants, tableWith, with-length, with-at}
-use Rattle.sides.specs.Sides.{Side, none, sideKey}
-use Rattle.sides.specs.Tight.{least, least-nil, least-own, least-other}
+use Rattle.sides.specs.Sides.{Side, none}
+use Rattle.sides.specs.Tight.{soloKey, least, least-nil, least-own, least-other}
 use Rattle.sides.specs.Keys.{keyAt, keysOf, key-step, key-after, is-keys}
 
 -- Steps 0 to k - 1 are done, and of step k the guards before place i.
@@ -84,7 +84,7 @@ module _ (s : Side) (t : Table) (good : Good t) (cs : List ℕ) where
           (slice-more (getD (t .ends) k 0) i guards d (f .first)
           (omega (arith, with-length cs (t .guards), good .guards-size, guard-room)))
 
-      pub filled-guard : (key v : ℕ) → key ≡ sideKey s (g .relation) (getD cs i 0)
+      pub filled-guard : (key v : ℕ) → key ≡ soloKey s own
           → v ≡ min (getD row (7 * k + g .clock) 0) key → Filled s T (set row (7 * k + g .clock) v) k (i + 1)
       filled-guard key v o e =
           record {
@@ -110,7 +110,7 @@ module _ (s : Side) (t : Table) (good : Good t) (cs : List ℕ) where
               ∙ getD-set-same row (7 * k + g .clock) v 0 (omega (arith, f .size, good .steps-few, guard-here .last))
               ∙ e
               ∙ ap (min (getD row (7 * k + g .clock) 0)) o
-              ∙ ap (λ n. min n (sideKey s (g .relation) (getD cs i 0))) (ap (λ n. getD row (7 * k + n) 0) c ∙ f .here j l b)
+              ∙ ap (λ n. min n (soloKey s own)) (ap (λ n. getD row (7 * k + n) 0) c ∙ f .here j l b)
               ∙ sym (rw more (least-own s j (slice (getD (t .ends) k 0) i guards) own c))
           now j b (no c) =
               getD-set-other row (7 * k + g .clock) (7 * k + j) v 0 (omega arith)

@@ -1,22 +1,24 @@
 -- Guards in P parts to a tick: the tightest are the same, and their demands are the same with the constants in parts.
 use mathlib.Core.Path.{_≡_, refl, sym, ap, _∙_}
 use mathlib.Core.Logic.{_⊎_, inl, inr}
-use mathlib.Core.Bool.{Bool, true, false}
-use mathlib.Core.List.{List, [], _∷_, map, List·Memᴰ·head, List·Memᴰ·tail}
+use mathlib.Core.Bool.{Bool, true, false, cond}
+use lib.Dec.{eqb}
+use mathlib.Core.List.{List, [], _∷_, _++_, map, map-append, List·Memᴰ·head, List·Memᴰ·tail}
 use Prim.Native.Nat.{ℕ, _+_, _*_, _≤_, _<_, min}
 use native.Mathlib.Omega.{arith}
 use native.Mathlib.Nat.{mul-le-mul-right}
 use native.Mathlib.Decide.{ℕ-discrete, decLe, decLt}
-use Rattle.table.specs.Step.{FairGuard}
+use Rattle.table.specs.Step.{upOf, downOf, endOf, FairGuard}
 use Rattle.table.specs.declared.Guard.{Guard}
 use Rattle.table.specs.declared.Relation.{Relation}
 use Rattle.table.specs.declared.Relation.the-variants.{Under, AtMost, Exactly, AtLeast, Over}
 use Rattle.runs.specs.declared.Demand.{Demand}
+use Rattle.runs.specs.Demand.{guardDemands, demandsAt, guardsDemands}
 use Rattle.runs.specs.Tools.{Every}
 use Rattle.scaling.specs.Scaled.{most, scaled-most}
 use Rattle.scaling.specs.Constants.{scaleGuard}
 use Rattle.sides.specs.Sides.{Side, Has, strictly, slack, sideDemand, none, sideKey, has-key, upper-key, lower-key}
-use Rattle.sides.specs.Tight.{least, keyOn, keyDemands, key-own, key-other, key-demand, key-demands-some, key-demands-none}
+use Rattle.sides.specs.Tight.{Own, own?, paired, least, keyOn, keyDemands, key-own, key-other, key-demand, key-demands-some, key-demands-none}
 
 -- a demand with its constants in P parts to a tick
 abbrev pub scaleDemand : ℕ → Demand → Demand
@@ -122,9 +124,9 @@ module _ (P : ℕ) (p : 0 < P) (few : P ≤ 1031) where
 
     -- the keys of a guard,
     guard-paired : (j : ℕ) (g : Guard) → FairGuard g → Paired (keyOn s j g) (keyOn s j (scaleGuard P g))
-    guard-paired j g f = go (ℕ-discrete (g .clock) j) (side-or-none s (g .relation))
+    guard-paired j g f = go (own? j g) (side-or-none s (g .relation))
       where
-        go : Dec (g .clock ≡ j) → Has s (g .relation) ⊎ ((c : ℕ) → sideKey s (g .relation) c ≡ none)
+        go : Dec (Own j g) → Has s (g .relation) ⊎ ((c : ℕ) → sideKey s (g .relation) c ≡ none)
             → Paired (keyOn s j g) (keyOn s j (scaleGuard P g))
         go (no n) h = inr (key-other s j g n, key-other s j (scaleGuard P g) n)
         go (yes e) (inr h) =
@@ -165,3 +167,54 @@ pub key-demands-scaled : (P : ℕ) → 0 < P → P ≤ 1031 → (s : Side) (j : 
     → keyDemands s (least s j (map (scaleGuard P) gs)) z i ≡ map (scaleDemand P) (keyDemands s (least s j gs) z i)
 key-demands-scaled P p q s j gs f z i =
     paired-demands P p q s (least s j gs) (least s j (map (scaleGuard P) gs)) z i (least-paired P p q s j gs f)
+
+-- ---- guards between two clocks
+guard-scaled : (P : ℕ) (r : Relation) (u d a b : ℕ)
+    → guardDemands r (u * P) (d * P) a b ≡ map (scaleDemand P) (guardDemands r u d a b)
+guard-scaled P Under u d a b = refl
+guard-scaled P AtMost u d a b = refl
+guard-scaled P Exactly u d a b = refl
+guard-scaled P AtLeast u d a b = refl
+guard-scaled P Over u d a b = refl
+
+up-scaled : (P : ℕ) (g : Guard) → upOf (scaleGuard P g) ≡ upOf g * P
+unfolding upOf
+up-scaled P g = go (g .minus)
+  where
+    go : (b : Bool) → cond b 0 (g .constant * P) ≡ cond b 0 (g .constant) * P
+    go true = omega arith
+    go false = refl
+
+down-scaled : (P : ℕ) (g : Guard) → downOf (scaleGuard P g) ≡ downOf g * P
+unfolding downOf
+down-scaled P g = go (g .minus)
+  where
+    go : (b : Bool) → cond b (g .constant * P) 0 ≡ cond b (g .constant) 0 * P
+    go true = refl
+    go false = omega arith
+
+guards-scaled : (P : ℕ) (gs : List Guard) (i : ℕ) (z : ℕ → ℕ)
+    → guardsDemands (map (scaleGuard P) gs) i z ≡ map (scaleDemand P) (guardsDemands gs i z)
+unfolding guardsDemands
+guards-scaled P [] i z = refl
+guards-scaled P (g ∷ gs) i z =
+    rw (up-scaled P g, down-scaled P g, guards-scaled P gs i z)
+    (ap (λ ds. ds ++ map (scaleDemand P) (guardsDemands gs i z))
+    (guard-scaled P (g .relation) (upOf g) (downOf g) (z (g .clock)) (endOf (g .second) i z))
+    ∙ sym (map-append (scaleDemand P) (demandsAt g i z) (guardsDemands gs i z)))
+
+paired-scaled : (P : ℕ) (gs : List Guard) → paired (map (scaleGuard P) gs) ≡ map (scaleGuard P) (paired gs)
+unfolding paired
+paired-scaled P [] = refl
+paired-scaled P (g ∷ gs) = go (eqb (g .second) 0) (paired-scaled P gs)
+  where
+    go : (b : Bool) → paired (map (scaleGuard P) gs) ≡ map (scaleGuard P) (paired gs)
+        → cond b (paired (map (scaleGuard P) gs)) (scaleGuard P g ∷ paired (map (scaleGuard P) gs))
+        ≡ map (scaleGuard P) (cond b (paired gs) (g ∷ paired gs))
+    go true h = h
+    go false h = ap (λ l. scaleGuard P g ∷ l) h
+
+-- Their demands are the same in parts.
+pub leads-scaled : (P : ℕ) (gs : List Guard) (i : ℕ) (z : ℕ → ℕ)
+    → guardsDemands (paired (map (scaleGuard P) gs)) i z ≡ map (scaleDemand P) (guardsDemands (paired gs) i z)
+leads-scaled P gs i z = ap (λ l. guardsDemands l i z) (paired-scaled P gs) ∙ guards-scaled P (paired gs) i z

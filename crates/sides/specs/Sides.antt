@@ -1,7 +1,9 @@
 -- The two sides of a guard: it may bound a reading from above and from below. A key tells how tight a side is.
 use mathlib.Core.Path.{_≡_, refl}
 use mathlib.Core.Logic.{_⊎_, inl, inr}
-use mathlib.Core.Bool.{Bool, true, false}
+use mathlib.Core.Bool.{Bool, true, false, cond}
+use lib.Dec.{eqb}
+use borrow.Author.Tests.{eq-eqb, ne-eqb}
 use mathlib.Core.List.{[], _∷_, List·Memᴰ, List·Memᴰ·head, List·Memᴰ·tail}
 use mathlib.Core.List.{List·Memᴰ·not-nil, List·Memᴰ·cases-cons}
 use Prim.Native.Nat.{ℕ, _+_, _*_, _-_, _≤_, _<_}
@@ -64,6 +66,13 @@ sideKey false Over c = 2 * most - 2 * c
 -- the key of a side and a relation that are known
 pub key-known : (s q : Side) (r p : Relation) (c a : ℕ) → a ≡ sideKey s r c → q ≡ s → p ≡ r → a ≡ sideKey q p c
 key-known s q r p c a h e f = rw (e, f) h
+
+-- the key of a guard with a second clock m is none, and that of another is its side's
+pub solo-no : (s : Side) (r : Relation) (c m : ℕ) → 0 < m → none ≡ cond (eqb m 0) (sideKey s r c) none
+solo-no s r c m h = rw (ne-eqb m 0 (omega arith))
+
+pub solo-yes : (s : Side) (r : Relation) (c m a : ℕ) → m ≡ 0 → a ≡ sideKey s r c → a ≡ cond (eqb m 0) (sideKey s r c) none
+solo-yes s r c m a e h = rw (eq-eqb m 0 e) h
 
 -- a side is there exactly where its key is not `none`
 pub key-has : (s : Side) (r : Relation) (c : ℕ) → sideKey s r c < none → Has s r
@@ -139,7 +148,7 @@ key-tight false r q c e z i l m h k le =
 
 -- ---- the demands of a guard are those of its sides
 module _ (c z i : ℕ) where
-  pub side-listed : (s : Side) (r : Relation) → Has s r → List·Memᴰ (sideDemand s r c z i) (guardDemands r c z i)
+  pub side-listed : (s : Side) (r : Relation) → Has s r → List·Memᴰ (sideDemand s r c z i) (guardDemands r c 0 z i)
   side-listed true Under h = List·Memᴰ·head refl
   side-listed true AtMost h = List·Memᴰ·head refl
   side-listed true Exactly h = List·Memᴰ·head refl
@@ -163,7 +172,7 @@ module _ (c z i : ℕ) where
     pub has : Has side r
     pub is : d ≡ sideDemand side r c z i
 
-  pub listed-side : (r : Relation) (d : Demand) → List·Memᴰ d (guardDemands r c z i) → Listed r d
+  pub listed-side : (r : Relation) (d : Demand) → List·Memᴰ d (guardDemands r c 0 z i) → Listed r d
   listed-side Under d m = record { side = true; has = tt; is = only d _ m }
   listed-side AtMost d m = record { side = true; has = tt; is = only d _ m }
   listed-side Exactly d m = go (List·Memᴰ·cases-cons m)

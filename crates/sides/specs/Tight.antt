@@ -10,20 +10,38 @@ use native.Mathlib.Decide.{ℕ-discrete, decLe, decLt}
 use borrow.Author.Tests.{lt-ltb, le-ltb, eq-eqb, ne-eqb}
 use lib.Dec.{ltb, eqb}
 use lib.ListN.{length, length-append}
-use Rattle.table.specs.Step.{FairGuard}
+use Rattle.basics.specs.Choice.{both}
+use Rattle.table.specs.Step.{up-plain, down-plain, end-none, FairGuard}
 use Rattle.table.specs.declared.Guard.{Guard}
 use Rattle.table.specs.declared.Relation.{Relation}
 use Rattle.runs.specs.declared.Demand.{Demand}
-use Rattle.runs.specs.Demand.{plus, minus, guardDemands, guardsDemands}
+use Rattle.runs.specs.Demand.{plus, minus, guardDemands, demandsAt, guardsDemands, OnClocks}
+use Rattle.runs.specs.Tighten.{tight-refl}
 use Rattle.runs.specs.Tools.{Every}
 use Rattle.scaling.specs.Scaled.{most}
 use Rattle.sides.specs.Sides.{Side, Has, strictly, sideDemand, none, sideKey, key-has, has-key, key-tight, upper-key, lower-key}
 use Rattle.sides.specs.Sides.{slack, side-listed, Listed, listed-side}
 use Rattle.sides.specs.Covers.{Stronger, Covers}
 
+-- the key of a guard's side, and none if it has a second clock
+abbrev pub soloKey : Side → Guard → ℕ
+soloKey s g = cond (eqb (g .second) 0) (sideKey s (g .relation) (g .constant)) none
+
 -- the key of a guard's side on a clock
 unfoldable pub keyOn : Side → ℕ → Guard → ℕ
-keyOn s clock g = cond (eqb (g .clock) clock) (sideKey s (g .relation) (g .constant)) none
+keyOn s clock g = cond (eqb (g .clock) clock) (soloKey s g) none
+
+-- a guard on this clock alone
+abbrev pub Own : ℕ → Guard → Type 0
+Own clock g = (g .clock ≡ clock) × (g .second ≡ 0)
+
+pub own? : (clock : ℕ) (g : Guard) → Dec (Own clock g)
+own? clock g = both (ℕ-discrete (g .clock) clock) (ℕ-discrete (g .second) 0)
+
+-- the guards that have a second clock
+unfoldable pub paired : List Guard → List Guard
+paired [] = []
+paired (g ∷ gs) = cond (eqb (g .second) 0) (paired gs) (g ∷ paired gs)
 
 -- the smallest key on a clock
 unfoldable pub least : Side → ℕ → List Guard → ℕ
@@ -115,18 +133,24 @@ key-demand false r c z i l h =
     let e = lower-halves (strictly r) c (sideKey false r c) (lower-key r c l h) in rw (e .0, e .1)
 
 -- ---- the smallest key
-pub key-own : (s : Side) (clock : ℕ) (g : Guard) → g .clock ≡ clock → keyOn s clock g ≡ sideKey s (g .relation) (g .constant)
+pub key-own : (s : Side) (clock : ℕ) (g : Guard) → Own clock g → keyOn s clock g ≡ sideKey s (g .relation) (g .constant)
 unfolding keyOn
-key-own s clock g e = rw (eq-eqb (g .clock) clock e)
+key-own s clock g e = rw (eq-eqb (g .clock) clock (e .0), eq-eqb (g .second) 0 (e .1))
 
-pub key-other : (s : Side) (clock : ℕ) (g : Guard) → ¬ (g .clock ≡ clock) → keyOn s clock g ≡ none
+pub key-other : (s : Side) (clock : ℕ) (g : Guard) → ¬ Own clock g → keyOn s clock g ≡ none
 unfolding keyOn
-key-other s clock g e = rw (ne-eqb (g .clock) clock e)
-
-key-clock : (s : Side) (clock : ℕ) (g : Guard) → keyOn s clock g < none → g .clock ≡ clock
-key-clock s clock g h = go (ℕ-discrete (g .clock) clock)
+key-other s clock g n = go (ℕ-discrete (g .second) 0) (ℕ-discrete (g .clock) clock)
   where
-    go : Dec (g .clock ≡ clock) → g .clock ≡ clock
+    go : Dec (g .second ≡ 0) → Dec (g .clock ≡ clock)
+        → cond (eqb (g .clock) clock) (cond (eqb (g .second) 0) (sideKey s (g .relation) (g .constant)) none) none ≡ none
+    go a (no b) = rw (ne-eqb (g .clock) clock b)
+    go (no a) (yes b) = rw (eq-eqb (g .clock) clock b, ne-eqb (g .second) 0 a)
+    go (yes a) (yes b) = absurd (n (b, a))
+
+key-clock : (s : Side) (clock : ℕ) (g : Guard) → keyOn s clock g < none → Own clock g
+key-clock s clock g h = go (own? clock g)
+  where
+    go : Dec (Own clock g) → Own clock g
     go (yes e) = e
     go (no e) = absurd (omega (arith, key-other s clock g e))
 
@@ -155,18 +179,22 @@ least-more s clock [] g = omega arith
 least-more s clock (h ∷ gs) g = omega (arith, least-more s clock gs g)
 
 pub least-own : (s : Side) (clock : ℕ) (gs : List Guard) (g : Guard) → g .clock ≡ clock
-    → least s clock (gs ++ g ∷ []) ≡ min (least s clock gs) (sideKey s (g .relation) (g .constant))
-least-own s clock gs g e = omega (arith, least-more s clock gs g, key-own s clock g e)
+    → least s clock (gs ++ g ∷ []) ≡ min (least s clock gs) (soloKey s g)
+least-own s clock gs g e = least-more s clock gs g ∙ ap (min (least s clock gs)) own
+  where
+    own : keyOn s clock g ≡ soloKey s g
+    own = unfold keyOn in rw (eq-eqb (g .clock) clock e)
 
 pub least-other : (s : Side) (clock : ℕ) (gs : List Guard) (g : Guard) → ¬ (g .clock ≡ clock)
     → least s clock (gs ++ g ∷ []) ≡ least s clock gs
-least-other s clock gs g e = omega (arith, least-more s clock gs g, key-other s clock g e, least-none s clock gs)
+least-other s clock gs g e =
+    omega (arith, least-more s clock gs g, key-other s clock g (λ o. e (o .0)), least-none s clock gs)
 
 -- a guard on the clock with this key
 record Best (s : Side) (clock key : ℕ) (gs : List Guard) : Type 0 where
   guard : Guard
   member : List·Memᴰ guard gs
-  on : guard .clock ≡ clock
+  on : Own clock guard
   has : Has s (guard .relation)
   keyed : sideKey s (guard .relation) (guard .constant) ≡ key
 
@@ -184,7 +212,7 @@ least-best s clock (g ∷ gs) l = pick (decLe (keyOn s clock g) (least s clock g
 
     here : keyOn s clock g ≤ least s clock gs → Best s clock key (g ∷ gs)
     here k =
-        let on : g .clock ≡ clock = key-clock s clock g (omega arith) in
+        let on : Own clock g = key-clock s clock g (omega arith) in
         let own : keyOn s clock g ≡ sideKey s (g .relation) (g .constant) = key-own s clock g on in
         record {
           guard = g;
@@ -276,7 +304,65 @@ module _ (gs : List Guard) (i : ℕ) (z : ℕ → ℕ) (j m : ℕ) (d : Demand) 
 
 -- ---- the demands of guards, one guard at a time
 abbrev of : ℕ → (ℕ → ℕ) → Guard → List Demand
-of i z g = guardDemands (g .relation) (g .constant) (z (g .clock)) i
+of i z g = demandsAt g i z
+
+-- those of a guard on one clock alone
+alone : (i : ℕ) (z : ℕ → ℕ) (g : Guard) → FairGuard g → g .second ≡ 0
+    → of i z g ≡ guardDemands (g .relation) (g .constant) 0 (z (g .clock)) i
+alone i z g f e = rw (up-plain g (f .plain e), down-plain g (f .plain e), end-none (g .second) i z e)
+
+-- ---- guards with a second clock
+pub paired-few : (gs : List Guard) → length (paired gs) ≤ length gs
+unfolding paired
+paired-few [] = omega arith
+paired-few (g ∷ gs) = go (eqb (g .second) 0) (paired-few gs)
+  where
+    go : (b : Bool) → length (paired gs) ≤ length gs → length (cond b (paired gs) (g ∷ paired gs)) ≤ suc (length gs)
+    go true h = omega arith
+    go false h = omega arith
+
+pub paired-append : (gs hs : List Guard) → paired (gs ++ hs) ≡ paired gs ++ paired hs
+unfolding paired
+paired-append [] hs = refl
+paired-append (g ∷ gs) hs = go (eqb (g .second) 0) (paired-append gs hs)
+  where
+    go : (b : Bool) → paired (gs ++ hs) ≡ paired gs ++ paired hs
+        → cond b (paired (gs ++ hs)) (g ∷ paired (gs ++ hs)) ≡ cond b (paired gs) (g ∷ paired gs) ++ paired hs
+    go true e = e
+    go false e = ap (λ l. g ∷ l) e
+
+pub paired-twice : (gs : List Guard) → paired (paired gs) ≡ paired gs
+unfolding paired
+paired-twice [] = refl
+paired-twice (g ∷ gs) = go (ℕ-discrete (g .second) 0) (paired-twice gs)
+  where
+    go : Dec (g .second ≡ 0) → paired (paired gs) ≡ paired gs → paired (paired (g ∷ gs)) ≡ paired (g ∷ gs)
+    go (yes n) e = rw (eq-eqb (g .second) 0 n) e
+    go (no n) e = rw (ne-eqb (g .second) 0 n, ne-eqb (g .second) 0 n) (ap (λ l. g ∷ l) e)
+
+paired-member : (gs : List Guard) (g : Guard) → List·Memᴰ g gs → ¬ (g .second ≡ 0) → List·Memᴰ g (paired gs)
+unfolding paired
+paired-member [] g m n = absurd (List·Memᴰ·not-nil m)
+paired-member (h ∷ gs) g m n = go (ℕ-discrete (h .second) 0) (List·Memᴰ·cases-cons m) (λ k. paired-member gs g k n)
+  where
+    go : Dec (h .second ≡ 0) → (g ≡ h) ⊎ List·Memᴰ g gs → (List·Memᴰ g gs → List·Memᴰ g (paired gs))
+        → List·Memᴰ g (cond (eqb (h .second) 0) (paired gs) (h ∷ paired gs))
+    go (yes e) (inl q) later = absurd (n (ap (λ (x : Guard). x .second) q ∙ e))
+    go (yes e) (inr k) later = rw (eq-eqb (h .second) 0 e) (later k)
+    go (no e) (inl q) later = rw (ne-eqb (h .second) 0 e) (List·Memᴰ·head q)
+    go (no e) (inr k) later = rw (ne-eqb (h .second) 0 e) (List·Memᴰ·tail (later k))
+
+pub member-paired : (gs : List Guard) (g : Guard) → List·Memᴰ g (paired gs) → List·Memᴰ g gs
+unfolding paired
+member-paired [] g m = m
+member-paired (h ∷ gs) g m = go (ℕ-discrete (h .second) 0) (λ k. member-paired gs g k) m
+  where
+    go : Dec (h .second ≡ 0) → (List·Memᴰ g (paired gs) → List·Memᴰ g gs)
+        → List·Memᴰ g (cond (eqb (h .second) 0) (paired gs) (h ∷ paired gs)) → List·Memᴰ g (h ∷ gs)
+    go (yes e) later k = List·Memᴰ·tail (later (rw (eq-eqb (h .second) 0 e) at k))
+    go (no e) later k =
+        ⊎-elim (λ q. List·Memᴰ·head q) (λ q. List·Memᴰ·tail (later q))
+        (List·Memᴰ·cases-cons (rw (ne-eqb (h .second) 0 e) at k))
 
 listed-guards : (gs : List Guard) (i : ℕ) (z : ℕ → ℕ) (g : Guard) (d : Demand) → List·Memᴰ g gs → List·Memᴰ d (of i z g)
     → List·Memᴰ d (guardsDemands gs i z)
@@ -302,8 +388,7 @@ stronger true r q c e z i l m h k le = record { from = refl; to = refl; tight = 
 stronger false r q c e z i l m h k le = record { from = refl; to = refl; tight = key-tight false r q c e z i l m h k le }
 
 -- ---- together
-module _ (n : ℕ) (gs : List Guard) (f : Every FairGuard gs)
-    (on : (g : Guard) → List·Memᴰ g gs → (0 < g .clock) × (g .clock ≤ n)) (i : ℕ) (z : ℕ → ℕ) where
+module _ (n : ℕ) (gs : List Guard) (f : Every FairGuard gs) (on : Every (OnClocks n) gs) (i : ℕ) (z : ℕ → ℕ) where
   -- the tightest demand on a clock is the one of its guard
   best-demand : (s : Side) (clock : ℕ) (b : Best s clock (least s clock gs) gs)
       → keyDemand s (least s clock gs) (z clock) i ≡ sideDemand s (b .guard .relation) (b .guard .constant) (z clock) i
@@ -312,7 +397,9 @@ module _ (n : ℕ) (gs : List Guard) (f : Every FairGuard gs)
       ∙ key-demand s (b .guard .relation) (b .guard .constant) (z clock) i (omega (arith, f (b .guard) (b .member) .small)) (b .has)
 
   among-side : (s : Side) (e : Demand) → List·Memᴰ e (tight s gs i z 1 n) → List·Memᴰ e (guardsDemands gs i z)
-  among-side s e m = listed-guards gs i z g e (b .member) (subst (λ d. List·Memᴰ d (of i z g)) (sym is) listed)
+  among-side s e m =
+      listed-guards gs i z g e (b .member)
+      (subst (λ d. List·Memᴰ d (of i z g)) (sym is) (subst (List·Memᴰ _) (sym (alone i z g (f g (b .member)) (b .on .1))) listed))
     where
       o : OnClock s gs i z 1 n e
       o = tight-listed s gs i z 1 n e m
@@ -327,56 +414,73 @@ module _ (n : ℕ) (gs : List Guard) (f : Every FairGuard gs)
       is =
           o .is
           ∙ best-demand s (o .clock) b
-          ∙ ap (λ c. sideDemand s (g .relation) (g .constant) (z c) i) (sym (b .on))
+          ∙ ap (λ c. sideDemand s (g .relation) (g .constant) (z c) i) (sym (b .on .0))
 
-      listed : List·Memᴰ (sideDemand s (g .relation) (g .constant) (z (g .clock)) i) (of i z g)
+      listed : List·Memᴰ (sideDemand s (g .relation) (g .constant) (z (g .clock)) i) (guardDemands (g .relation) (g .constant) 0 (z (g .clock)) i)
       listed = side-listed (g .constant) (z (g .clock)) i s (g .relation) (b .has)
 
-  in-both : (s : Side) (d : Demand) → List·Memᴰ d (tight s gs i z 1 n)
-      → List·Memᴰ d (tight false gs i z 1 n ++ tight true gs i z 1 n)
-  in-both true d m = Memᴰ·append-right (tight false gs i z 1 n) m
-  in-both false d m = Memᴰ·append-left (tight true gs i z 1 n) m
+  -- the tightest of each side, and all those between two clocks
+  abbrev pub tightest : List Demand
+  tightest = tight false gs i z 1 n ++ (tight true gs i z 1 n ++ guardsDemands (paired gs) i z)
 
-  covered : (d : Demand) → List·Memᴰ d (guardsDemands gs i z)
-      → (e : Demand) × List·Memᴰ e (tight false gs i z 1 n ++ tight true gs i z 1 n) × Stronger e d
+  among-paired : (e : Demand) → List·Memᴰ e (guardsDemands (paired gs) i z) → List·Memᴰ e (guardsDemands gs i z)
+  among-paired e m = let k = guards-listed (paired gs) i z e m in listed-guards gs i z (k .0) e (member-paired gs (k .0) (k .1)) (k .2)
+
+  in-both : (s : Side) (d : Demand) → List·Memᴰ d (tight s gs i z 1 n) → List·Memᴰ d tightest
+  in-both true d m = Memᴰ·append-right (tight false gs i z 1 n) (Memᴰ·append-left (guardsDemands (paired gs) i z) m)
+  in-both false d m = Memᴰ·append-left (tight true gs i z 1 n ++ guardsDemands (paired gs) i z) m
+
+  covered-alone : (d : Demand) (g : Guard) → List·Memᴰ g gs → g .second ≡ 0 → List·Memᴰ d (of i z g)
+      → (e : Demand) × List·Memᴰ e tightest × Stronger e d
+  covered-alone d g k c l = (
+    e,
+    in-both s e (listed-tight s gs i z 1 n (g .clock) (on g k .0) (omega (arith, on g k .1)) some),
+    subst (Stronger e) (sym (q .is))
+        (rw (best-demand s (g .clock) b)
+        (stronger s (b .guard .relation) (g .relation) (b .guard .constant) (g .constant) (z (g .clock)) i
+        (omega (arith, f (b .guard) (b .member) .small)) (omega (arith, f g k .small)) (b .has) (q .has) (omega (arith, b .keyed, under)))),
+  )
+    where
+      q : Listed (g .constant) (z (g .clock)) i (g .relation) d
+      q = listed-side (g .constant) (z (g .clock)) i (g .relation) d (subst (List·Memᴰ d) (alone i z g (f g k) c) l)
+
+      s : Side
+      s = q .side
+
+      e : Demand
+      e = keyDemand s (least s (g .clock) gs) (z (g .clock)) i
+
+      under : least s (g .clock) gs ≤ sideKey s (g .relation) (g .constant)
+      under = omega (arith, least-under s (g .clock) gs g k, key-own s (g .clock) g (refl, c))
+
+      some : least s (g .clock) gs < none
+      some = omega (arith, under, has-key s (g .relation) (g .constant) (omega (arith, f g k .small)) (q .has))
+
+      b : Best s (g .clock) (least s (g .clock) gs) gs
+      b = least-best s (g .clock) gs some
+
+  covered : (d : Demand) → List·Memᴰ d (guardsDemands gs i z) → (e : Demand) × List·Memᴰ e tightest × Stronger e d
   covered d m = go (guards-listed gs i z d m)
     where
-      go : (g : Guard) × List·Memᴰ g gs × List·Memᴰ d (of i z g)
-          → (e : Demand) × List·Memᴰ e (tight false gs i z 1 n ++ tight true gs i z 1 n) × Stronger e d
-      go (g, k, l) = (
-        e,
-        in-both s e (listed-tight s gs i z 1 n (g .clock) (on g k .0) (omega (arith, on g k .1)) some),
-        subst (Stronger e) (sym (q .is))
-            (rw (best-demand s (g .clock) b)
-            (stronger s (b .guard .relation) (g .relation) (b .guard .constant) (g .constant) (z (g .clock)) i
-            (omega (arith, f (b .guard) (b .member) .small)) (omega (arith, f g k .small)) (b .has) (q .has) (omega (arith, b .keyed, under)))),
-      )
+      go : (g : Guard) × List·Memᴰ g gs × List·Memᴰ d (of i z g) → (e : Demand) × List·Memᴰ e tightest × Stronger e d
+      go (g, k, l) = pick (ℕ-discrete (g .second) 0)
         where
-          q : Listed (g .constant) (z (g .clock)) i (g .relation) d
-          q = listed-side (g .constant) (z (g .clock)) i (g .relation) d l
+          pick : Dec (g .second ≡ 0) → (e : Demand) × List·Memᴰ e tightest × Stronger e d
+          pick (yes c) = covered-alone d g k c l
+          pick (no c) = (
+            d,
+            Memᴰ·append-right (tight false gs i z 1 n)
+                (Memᴰ·append-right (tight true gs i z 1 n) (listed-guards (paired gs) i z g d (paired-member gs g k c) l)),
+            record { from = refl; to = refl; tight = tight-refl d },
+          )
 
-          s : Side
-          s = q .side
-
-          e : Demand
-          e = keyDemand s (least s (g .clock) gs) (z (g .clock)) i
-
-          under : least s (g .clock) gs ≤ sideKey s (g .relation) (g .constant)
-          under = omega (arith, least-under s (g .clock) gs g k, key-own s (g .clock) g refl)
-
-          some : least s (g .clock) gs < none
-          some = omega (arith, under, has-key s (g .relation) (g .constant) (omega (arith, f g k .small)) (q .has))
-
-          b : Best s (g .clock) (least s (g .clock) gs) gs
-          b = least-best s (g .clock) gs some
-
-pub covers-tight : (n : ℕ) (gs : List Guard) → Every FairGuard gs
-    → ((g : Guard) → List·Memᴰ g gs → (0 < g .clock) × (g .clock ≤ n)) → (i : ℕ) (z : ℕ → ℕ)
-    → Covers (tight false gs i z 1 n ++ tight true gs i z 1 n) (guardsDemands gs i z)
+pub covers-tight : (n : ℕ) (gs : List Guard) (f : Every FairGuard gs) (on : Every (OnClocks n) gs) (i : ℕ) (z : ℕ → ℕ)
+    → Covers (tightest n gs f on i z) (guardsDemands gs i z)
 covers-tight n gs f on i z =
     record {
       among = λ e m.
-          ⊎-elim (among-side n gs f on i z false e) (among-side n gs f on i z true e)
+          ⊎-elim (among-side n gs f on i z false e)
+          (λ l. ⊎-elim (among-side n gs f on i z true e) (among-paired n gs f on i z e) (List·Memᴰ·append-cases (tight true gs i z 1 n) l))
           (List·Memᴰ·append-cases (tight false gs i z 1 n) m);
       covered = covered n gs f on i z;
     }

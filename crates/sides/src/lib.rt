@@ -1,14 +1,16 @@
 // Of the guards of each step, the tightest on each clock from above and the tightest from below, as rows of keys.
 use scaling::MOST;
+use table::Guard;
 use table::Relation;
 use table::Table;
 ghost use mathlib.Core.Path.{_≡_};
-ghost use mathlib.Core.Bool.{true, false};
+ghost use mathlib.Core.Bool.{true, false, cond};
+ghost use lib.Dec.{eqb};
 ghost use Prim.Native.Nat.{_≤_, _-_, min};
 ghost use Rattle.table.specs.Step.{Good};
 ghost use Rattle.scaling.specs.Scaled.{most};
 ghost use Rattle.scaling.specs.Constants.{tableWith};
-ghost use Rattle.sides.specs.Sides.{sideKey};
+ghost use Rattle.sides.specs.Sides.{none, sideKey};
 ghost use Rattle.sides.specs.Keys.{Numbers, keysOf};
 
 // The largest keys of a guard, weak and strict: twice the largest number, and one more where it is weak.
@@ -58,6 +60,18 @@ fn side_key(upper: bool, relation: Relation, constant: u64) -> u64
     lower_key(relation, constant)
 }
 
+// The key of a side of a guard, and none if it has a second clock.
+fn solo_key(upper: bool, g: Guard, constant: u64) -> u64
+    requires { ⌜ constant ≤ most ⌝ }
+    ensures { λ r. ⌜ r ≡ cond (eqb (g .second) 0) (sideKey upper (g .relation) constant) none ⌝ }
+{
+    if g.second != 0 {
+        return NONE;
+    }
+    let relation = g.relation;
+    side_key(upper, relation, constant)
+}
+
 // The smaller of two numbers.
 fn smaller(a: u64, b: u64) -> u64
     ensures { λ r. ⌜ r ≡ min a b ⌝ }
@@ -77,9 +91,8 @@ pub fn keys(t: Table, constants: &[u64; 64], upper: bool) -> [u64; 112]
     while s < t.steps {
         if i < t.ends[s + 1] {
             let g = t.guards[i];
-            let relation = g.relation;
             let at = 7 * s + g.clock as usize;
-            row[at] = smaller(row[at], side_key(upper, relation, constants[i]));
+            row[at] = smaller(row[at], solo_key(upper, g, constants[i]));
             i += 1;
             continue;
         }

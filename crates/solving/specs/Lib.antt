@@ -1,2 +1,3 @@
 pub mod Solved
+pub mod Latest
 pub mod Solve

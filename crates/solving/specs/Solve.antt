@@ -8,6 +8,7 @@ use native.Mathlib.Decide.{decLe}
 use lib.ListN.{length, drop, replicate, length-replicate, getD-replicate}
 use Rattle.runs.specs.Demand.{plus, startsOf}
 use Rattle.runs.specs.Start.{start-upper}
+use Rattle.leads.specs.Leads.{ledBy}
 use Rattle.sweeps.specs.Order.{returnOf, partnersFrom}
 use Rattle.sweeps.specs.Covered.{among-forth}
 use Rattle.basics.specs.Tab.{tab, is-tab, length-tab, getD-tab}
@@ -18,11 +19,10 @@ use Rattle.paths.specs.State.{State, state}
 use Rattle.paths.specs.Bounds.{Room}
 use Rattle.paths.specs.Code.{Wrote, wrote-rest, Returns, cycle-returns}
 use Rattle.checks.specs.InParts.{edge}
-use Rattle.relaxing.specs.Rows.{Rows, moments, constraintsOf, Sound}
+use Rattle.relaxing.specs.Rows.{Rows, moments, constraintsOf, Sound, going-low, going-up}
 use Rattle.relaxing.specs.Passes.{Begins, Ready, Ended}
-use Rattle.readout.specs.LeastStart.{leastStart}
-use Rattle.readout.specs.OneClock.{least-forth}
-use Rattle.readout.specs.Starting.{Rowed, startAt}
+use Rattle.readout.specs.Late.{Rowed, Told}
+use Rattle.solving.specs.Latest.{began-bounded, lowered-latest}
 use Rattle.solving.specs.Solved.{Above, LeastSolution, Plans, Cycles}
 
 -- What is asked of the rooms.
@@ -52,12 +52,6 @@ spacious R n l =
     none : (v : ℕ) → v < moments R → at (zeros n) v ≡ 0
     none v w = getD-replicate n v 0 0 (omega arith)
 
--- equal numbers are written alike
-written-same : (f g : ℕ → ℕ) (n : ℕ) (l : List ℕ) → n ≤ length l → ((i : ℕ) → i < n → f i ≡ g i) → written f n l ≡ written g n l
-unfolding written
-written-same f g n l b h =
-    ap (λ t. t ++ drop n l) (is-tab n g (tab f n) (length-tab f n) (λ i w. getD-tab f n i w ∙ h i w))
-
 module _ (R : Rows) (z : Sound R) where
   abbrev K : ℕ
   K = R .total
@@ -72,9 +66,9 @@ module _ (R : Rows) (z : Sound R) where
   cs = constraintsOf R
 
   -- ---- before the passes
-  -- times of which K + 1 are set to 4001 ticks, in a cleared space, are the start values
+  -- times of which K + 1 are set to 24,012 ticks, in a cleared space, are the start values
   pub start-ready : (time time₁ parent stamp marks : List ℕ) → Spacious R (state time parent stamp) marks
-      → time₁ ≡ filled (4001 * P) (K + 1) time → Ready R (state time₁ parent stamp) marks
+      → time₁ ≡ filled (24012 * P) (K + 1) time → Ready R (state time₁ parent stamp) marks
   start-ready time time₁ parent stamp marks h e =
       record {
         sound = z;
@@ -86,17 +80,17 @@ module _ (R : Rows) (z : Sound R) where
                         omega (
                           arith,
                           ap length e,
-                          length-written (λ i. 4001 * P) (K + 1) time (omega (arith, h .room .time)),
+                          length-written (λ i. 24012 * P) (K + 1) time (omega (arith, h .room .time)),
                           h .room .time,
                         );
                     parent = h .room .parent;
                     stamp = h .room .stamp;
                   };
               unstamped = h .unstamped;
-              now = λ v l. ap (λ (l : List ℕ). at l v) e ∙ at-written (λ i. 4001 * P) (K + 1) time v (omega arith);
+              now = λ v l. ap (λ (l : List ℕ). at l v) e ∙ at-written (λ i. 24012 * P) (K + 1) time v (omega arith);
               past = λ v l w.
                   ap (λ (l : List ℕ). at l v) e
-                  ∙ at-written-rest (λ i. 4001 * P) (K + 1) time v (omega arith)
+                  ∙ at-written-rest (λ i. 24012 * P) (K + 1) time v (omega arith)
                   ∙ h .timeless v w;
             };
         room = h .marked;
@@ -108,7 +102,7 @@ module _ (R : Rows) (z : Sound R) where
   order-member i l =
       Memᴰ·map edge
       (Memᴰ·append-right (partnersFrom K (startsOf (R .start)) 1 n)
-      (Memᴰ·append-left (returnOf (R .up) (R .far) (R .steps) n K)
+      (Memᴰ·append-left (returnOf (R .up) (ledBy (R .leads)) (R .far) (R .steps) n K)
       (among-forth (R .low) (R .far) (R .steps) n K 0 K i (plus (suc i) i 0 false) (omega arith) (omega arith)
       (List·Memᴰ·head refl))))
 
@@ -158,35 +152,33 @@ module _ (R : Rows) (z : Sound R) where
     answer-moments l i m = rising (at (s′ .time)) (e .solved l) i m
 
     -- The smallest starts can be computed.
-    pub answer-rowed : Rowed (R .low) (R .far) (R .steps) n K (s′ .time)
-    answer-rowed =
+    pub answer-rowed : P ≤ u → (starts : List ℕ) → n ≤ length starts
+        → Rowed (R .low) (R .up) (R .leads) (R .far) (R .steps) n K (s′ .time) starts
+    answer-rowed l starts c =
         record {
-          keyed = z .low;
-          reached = z .far;
-          steps-some = z .some;
-          steps = z .steps;
-          clocks = z .clocks;
-          few = z .few;
-          moments = answer-times;
-          now = e .under 0 (omega arith);
+          below = going-low R z;
+          above = going-up R z;
+          led = z .leads;
+          whole = z .whole;
+          times = omega (arith, e .size .time, b .room .time);
+          starts = c;
+          bounded = λ f g. began-bounded R z (at (s′ .time)) (least l) (s′ .time) (λ v. refl) (omega (arith, e .size .time, b .room .time)) f g;
         }
 
     -- The moments and the smallest starts are written out.
-    pub answer-plan : P ≤ u → (times starts room times′ starts′ : List ℕ) → n ≤ length starts
+    pub answer-plan : P ≤ u → (times starts room times′ starts′ late : List ℕ)
         → times′ ≡ written (λ i. at (s′ .time) (i + 1) - at (s′ .time) 0) K times
-        → starts′ ≡ written (startAt (R .low) (R .far) (R .steps) n K (s′ .time)) n starts
+        → Told (R .low) (R .up) (R .leads) (R .far) (R .steps) n K (s′ .time) late starts starts′
         → Plans R times starts room times′ starts′ room
-    unfolding constraintsOf
-    answer-plan l times starts room times′ starts′ fit f g =
+    answer-plan l times starts room times′ starts′ late f t =
         record {
           x = at (s′ .time);
+          l = at late;
           least = least l;
+          latest =
+              lowered-latest R z (at (s′ .time)) (least l) (s′ .time) (λ v. refl) (omega (arith, e .size .time, b .room .time)) (t .first) (t .began)
+              late (t .falling) (t .forth) (t .back);
           times = f;
-          starts =
-              g
-              ∙ written-same _ (λ j. leastStart (at (s′ .time)) (constraintsOf R) (K + (j + 1))) n starts fit
-              (λ j w. sym
-              (least-forth K (at (s′ .time)) (j + 1) (R .low) (R .far) (R .steps) n (R .up) (startsOf (R .start))
-              (start-upper (R .start) n) (omega arith)));
+          starts = t .starts;
           loop = refl;
         }

@@ -5,29 +5,37 @@ use Prim.Native.Nat.{ℕ, _+_, _*_, _-_, _≤_, _<_}
 use lib.ListN.{length, take, drop}
 use Rattle.paths.specs.Places.{written}
 use Rattle.paths.specs.Constraint.{All, NegativeCycle}
-use Rattle.readout.specs.LeastStart.{leastStart}
 use Rattle.relaxing.specs.Rows.{Rows, moments, constraintsOf}
 use Rattle.solving.specs.declared.Solution.{Solution}
 use Rattle.solving.specs.declared.Solution.the-variants.{Least, Cycle}
 
--- the times x of moments 0 to K are not before 4001 ticks of P parts
+-- the times x of moments 0 to K are not before 24012 ticks of P parts
 abbrev pub Above : ℕ → ℕ → (ℕ → ℕ) → Type 0
-Above P K x = (i : ℕ) → i ≤ K → 4001 * P ≤ x i
+Above P K x = (i : ℕ) → i ≤ K → 24012 * P ≤ x i
 
--- x is the least solution that is not below the start values: 4001 ticks for moments 0 to K, and 0 for the last resets before
+-- x is the least solution that is not below the start values: 24012 ticks for moments 0 to K, and 0 for the last resets before
 -- the start.
 pub record LeastSolution (R : Rows) (x : ℕ → ℕ) : Type 0 where
   pub solution : All (constraintsOf R) x
   pub above : Above (moments R) (R .total) x
   pub least : (y : ℕ → ℕ) → All (constraintsOf R) y → Above (moments R) (R .total) y → (v : ℕ) → v < moments R → x v ≤ y v
 
--- Three rooms hold t, s and l before, and t′, s′ and l′ after. The least solution is written out: its moments since the start, and the smallest starts for them.
-pub record Plans (R : Rows) (t s l t′ s′ l′ : List ℕ) : Type 0 where
+-- l is the greatest solution with the moments of x: no other is later, when time is counted from k.
+pub record Latest (R : Rows) (x l : ℕ → ℕ) : Type 0 where
+  pub solution : All (constraintsOf R) l
+  pub now : (i : ℕ) → i ≤ R .total → l i ≡ x i
+  pub greatest : (y : ℕ → ℕ) (k : ℕ) → All (constraintsOf R) y → ((i : ℕ) → i ≤ R .total → y i ≡ x i + k)
+      → (v : ℕ) → v < moments R → y v ≤ l v + k
+
+-- Three rooms hold t, s and o before, and t′, s′ and o′ after. The least solution is written out: its moments since the start, and the smallest starts for them.
+pub record Plans (R : Rows) (t s o t′ s′ o′ : List ℕ) : Type 0 where
   pub x : ℕ → ℕ
+  pub l : ℕ → ℕ
   pub least : LeastSolution R x
+  pub latest : Latest R x l
   pub times : t′ ≡ written (λ i. x (i + 1) - x 0) (R .total) t
-  pub starts : s′ ≡ written (λ j. leastStart x (constraintsOf R) (R .total + (j + 1))) (R .clocks) s
-  pub loop : l′ ≡ l
+  pub starts : s′ ≡ written (λ j. l 0 - l (R .total + (j + 1))) (R .clocks) s
+  pub loop : o′ ≡ o
 
 -- A negative cycle of m moments is in the first places of the third room.
 pub record Cycles (R : Rows) (t s l t′ s′ l′ : List ℕ) (m : ℕ) : Type 0 where

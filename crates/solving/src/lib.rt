@@ -21,6 +21,7 @@ pub enum Solution {
 pub fn solve(
     low: &[u64],
     up: &[u64],
+    leads: &[u64],
     far: &[usize],
     start: Start,
     steps: usize,
@@ -34,18 +35,19 @@ pub fn solve(
     stamp: &mut [u64],
     marks: &mut [u64],
 ) -> Solution
-    requires { ⌜ Sound (rows (now low) (now up) (now far) start steps clocks total)
-        × Roomy (rows (now low) (now up) (now far) start steps clocks total) (now times) (now starts) (now room)
-        × Spacious (rows (now low) (now up) (now far) start steps clocks total) (state (now time) (now parent) (now stamp)) (now marks) ⌝ }
-    ensures { λ a. ⌜ Solved (rows (now (low .entry)) (now (up .entry)) (now (far .entry)) start steps clocks total)
+    requires { ⌜ Sound (rows (now low) (now up) (now leads) (now far) start steps clocks total)
+        × Roomy (rows (now low) (now up) (now leads) (now far) start steps clocks total) (now times) (now starts) (now room)
+        × Spacious (rows (now low) (now up) (now leads) (now far) start steps clocks total) (state (now time) (now parent) (now stamp)) (now marks) ⌝ }
+    ensures { λ a. ⌜ Solved (rows (now (low .entry)) (now (up .entry)) (now (leads .entry)) (now (far .entry)) start steps clocks total)
         (now (times .entry)) (now (starts .entry)) (now (room .entry))
         (now (times .exit)) (now (starts .exit)) (now (room .exit)) a ⌝ }
 {
     let n = total + clocks + 1;
-    fill(time, total + 1, 4001 * n as u64);
+    fill(time, total + 1, 24012 * n as u64);
     let u = passes(
         low,
         up,
+        leads,
         far,
         start,
         steps,
@@ -60,6 +62,6 @@ pub fn solve(
         return Solution::Cycle(write_cycle(parent, u, room));
     }
     write_moments(time, total, times);
-    write_starts(low, far, steps, clocks, total, time, starts);
+    write_starts(low, up, leads, far, steps, clocks, total, time, starts);
     Solution::Least
 }

@@ -11,6 +11,7 @@ ghost use Rattle.solving.specs.Solve.{Roomy};
 fn solve_small(
     low: &[u64],
     up: &[u64],
+    leads: &[u64],
     far: &[usize],
     start: Start,
     steps: usize,
@@ -20,10 +21,10 @@ fn solve_small(
     starts: &mut [u64],
     room: &mut [u64],
 ) -> Solution
-    requires { ⌜ Sound (rows (now low) (now up) (now far) start steps clocks total)
-        × Roomy (rows (now low) (now up) (now far) start steps clocks total) (now times) (now starts) (now room)
+    requires { ⌜ Sound (rows (now low) (now up) (now leads) (now far) start steps clocks total)
+        × Roomy (rows (now low) (now up) (now leads) (now far) start steps clocks total) (now times) (now starts) (now room)
         × (total + clocks < 64) ⌝ }
-    ensures { λ a. ⌜ Solved (rows (now (low .entry)) (now (up .entry)) (now (far .entry)) start steps clocks total)
+    ensures { λ a. ⌜ Solved (rows (now (low .entry)) (now (up .entry)) (now (leads .entry)) (now (far .entry)) start steps clocks total)
         (now (times .entry)) (now (starts .entry)) (now (room .entry))
         (now (times .exit)) (now (starts .exit)) (now (room .exit)) a ⌝ }
 {
@@ -34,6 +35,7 @@ fn solve_small(
     solve(
         low,
         up,
+        leads,
         far,
         start,
         steps,
@@ -53,6 +55,7 @@ fn solve_small(
 fn solve_large(
     low: &[u64],
     up: &[u64],
+    leads: &[u64],
     far: &[usize],
     start: Start,
     steps: usize,
@@ -62,9 +65,9 @@ fn solve_large(
     starts: &mut [u64],
     room: &mut [u64],
 ) -> Solution
-    requires { ⌜ Sound (rows (now low) (now up) (now far) start steps clocks total)
-        × Roomy (rows (now low) (now up) (now far) start steps clocks total) (now times) (now starts) (now room) ⌝ }
-    ensures { λ a. ⌜ Solved (rows (now (low .entry)) (now (up .entry)) (now (far .entry)) start steps clocks total)
+    requires { ⌜ Sound (rows (now low) (now up) (now leads) (now far) start steps clocks total)
+        × Roomy (rows (now low) (now up) (now leads) (now far) start steps clocks total) (now times) (now starts) (now room) ⌝ }
+    ensures { λ a. ⌜ Solved (rows (now (low .entry)) (now (up .entry)) (now (leads .entry)) (now (far .entry)) start steps clocks total)
         (now (times .entry)) (now (starts .entry)) (now (room .entry))
         (now (times .exit)) (now (starts .exit)) (now (room .exit)) a ⌝ }
 {
@@ -75,6 +78,7 @@ fn solve_large(
     solve(
         low,
         up,
+        leads,
         far,
         start,
         steps,
@@ -94,6 +98,7 @@ fn solve_large(
 pub fn solve_here(
     low: &[u64],
     up: &[u64],
+    leads: &[u64],
     far: &[usize],
     start: Start,
     steps: usize,
@@ -103,9 +108,9 @@ pub fn solve_here(
     starts: &mut [u64],
     room: &mut [u64],
 ) -> Solution
-    requires { ⌜ Sound (rows (now low) (now up) (now far) start steps clocks total)
-        × Roomy (rows (now low) (now up) (now far) start steps clocks total) (now times) (now starts) (now room) ⌝ }
-    ensures { λ a. ⌜ Solved (rows (now (low .entry)) (now (up .entry)) (now (far .entry)) start steps clocks total)
+    requires { ⌜ Sound (rows (now low) (now up) (now leads) (now far) start steps clocks total)
+        × Roomy (rows (now low) (now up) (now leads) (now far) start steps clocks total) (now times) (now starts) (now room) ⌝ }
+    ensures { λ a. ⌜ Solved (rows (now (low .entry)) (now (up .entry)) (now (leads .entry)) (now (far .entry)) start steps clocks total)
         (now (times .entry)) (now (starts .entry)) (now (room .entry))
         (now (times .exit)) (now (starts .exit)) (now (room .exit)) a ⌝ }
 {
@@ -113,6 +118,7 @@ pub fn solve_here(
         return solve_small(
             low,
             up,
+            leads,
             far,
             start,
             steps,
@@ -126,6 +132,7 @@ pub fn solve_here(
     solve_large(
         low,
         up,
+        leads,
         far,
         start,
         steps,

@@ -12,6 +12,7 @@ use Rattle.runs.specs.declared.Start.the-variants.{LogIn}
 use Rattle.runs.specs.Demand.{startsOf, Exists}
 use Rattle.constraints.specs.Sized.{Sized, partsOf, roundsOf}
 use Rattle.paths.specs.Places.{at, filled, length-written, at-written, at-written-rest}
+use Rattle.leads.specs.Leads.{ledBy, Leading}
 use Rattle.ways.specs.Forth.{Going}
 use Rattle.relaxing.specs.Rows.{going-low, going-up}
 use Rattle.solving.specs.declared.Solution.{Solution}
@@ -26,7 +27,7 @@ use Rattle.window.specs.Window.{far, spanOf}
 use Rattle.lowering.specs.Lowered.{none}
 use Rattle.lowering.specs.Bounded.{Bounded}
 use Rattle.lowering.specs.Outcome.{Greatest}
-use Rattle.latest.specs.Steps.{stepEdges}
+use Rattle.led_latest.specs.Steps.{ledEdges}
 use Rattle.spans.specs.Span.{Spans}
 use Rattle.spans.specs.Found.{Begins, stepsOf, begins-bounded, first-far, span-found}
 
@@ -105,20 +106,23 @@ module _ (t : Table) (k : ℕ) (z : Sized t k) where
         }
 
   -- ---- the rows as they were computed
-  module _ (low up distances : List ℕ) (c : Computed t k low up distances) where
-    same : stepEdges low up distances (t .steps) n K ≡ stepsOf t k
-    same = rw (c .below, c .above, c .distances) refl
+  module _ (low up leads distances : List ℕ) (c : Computed t k low up leads distances) where
+    same : ledEdges low up (ledBy leads) distances (t .steps) n K ≡ stepsOf t k
+    same = rw (c .below, c .above, c .led, c .distances) refl
 
     pub rows-going : Going low distances (t .steps) n K × Going up distances (t .steps) n K
     rows-going =
         rw (c .below, c .above, c .distances)
         (going-low (rowsOf t LogIn k) (rows-sound t LogIn k z), going-up (rowsOf t LogIn k) (rows-sound t LogIn k z))
 
-    pub rows-bounded : Plannable t k → (l : List ℕ) → Begins K n l → Bounded P (stepEdges low up distances (t .steps) n K) l
+    pub rows-leading : Leading leads (t .steps)
+    rows-leading = rw (c .led) (rows-sound t LogIn k z .leads)
+
+    pub rows-bounded : Plannable t k → (l : List ℕ) → Begins K n l → Bounded P (ledEdges low up (ledBy leads) distances (t .steps) n K) l
     rows-bounded p l b =
         subst (λ cs. Bounded P cs l) (sym same) (begins-bounded t k z (p .moments) (p .starts) (p .planned) l b)
 
-    pub rows-bounding : (l₀ l : List ℕ) → Begins K n l₀ → Greatest P (stepEdges low up distances (t .steps) n K) l₀ l
+    pub rows-bounding : (l₀ l : List ℕ) → Begins K n l₀ → Greatest P (ledEdges low up (ledBy leads) distances (t .steps) n K) l₀ l
         → Bounding t k l
     rows-bounding l₀ l b h = record { first = l₀; begins = b; greatest = subst (λ cs. Greatest P cs l₀ l) same h }
 

@@ -17,15 +17,15 @@ use Rattle.constraints.specs.Rounds.{length-rounds}
 use Rattle.constraints.specs.Sized.{Sized, partsOf, roundsOf, sized-parts}
 use Rattle.sides.specs.Keys.{keysOf}
 use Rattle.last_resets.specs.Distance.{distancesOf}
+use Rattle.leads.specs.Leads.{ledBy}
 use Rattle.sweeps.specs.Order.{forthOf, backOf, partnersFrom}
 use Rattle.sweeps.specs.Ends.{start-listed}
-use Rattle.sweeps.specs.Scaled.{forth-scaled, back-scaled}
 use Rattle.paths.specs.Places.{at}
 use Rattle.paths.specs.Constraint.{Constraint, Holds, All}
 use Rattle.checks.specs.InParts.{inParts, allInParts, edge, edges, edges-scaled}
 use Rattle.relaxing.specs.Rows.{constraintsOf}
 use Rattle.plan.specs.Planned.{Planned}
-use Rattle.plan.specs.Rows.{keysIn, rowsOf}
+use Rattle.plan.specs.Rows.{keysIn, leadsIn, rowsOf}
 use Rattle.window.specs.Window.{far, spanOf}
 use Rattle.window.specs.Spans.{span-closed, span-open}
 use Rattle.lowering.specs.Lowered.{none}
@@ -33,7 +33,8 @@ use Rattle.lowering.specs.Count.{reached}
 use Rattle.lowering.specs.Bounded.{unit, Bounded, bounded-near}
 use Rattle.lowering.specs.Outcome.{Greatest}
 use Rattle.lowering.specs.Last.{Last, Tops, tops-solve, last-found, none-found, first-near}
-use Rattle.latest.specs.Steps.{forthEdges, backEdges, stepEdges, edges-among}
+use Rattle.latest.specs.Steps.{forthEdges, edges-among}
+use Rattle.led_latest.specs.Steps.{ledBackEdges, ledEdges}
 use Rattle.spans.specs.Span.{With, Earliest, Latest, Unbounded, Spans}
 use Rattle.spans.specs.Solutions.{all-fit, all-weights, all-now, all-past, run-of, timesOf, times-solve, times-now, times-start, times-past}
 
@@ -68,7 +69,7 @@ partner-listed K j (suc n) d p m =
 
 -- the demands of the steps of k rounds, in parts
 abbrev pub stepsOf : Table → ℕ → List Constraint
-stepsOf t k = stepEdges (keysIn false t k) (keysIn true t k) (distancesOf t) (t .steps) (t .clocks) (k * t .steps)
+stepsOf t k = ledEdges (keysIn false t k) (keysIn true t k) (ledBy (leadsIn t k)) (distancesOf t) (t .steps) (t .clocks) (k * t .steps)
 
 module _ (t : Table) (k : ℕ) (z : Sized t k) where
   abbrev K : ℕ
@@ -111,26 +112,14 @@ module _ (t : Table) (k : ℕ) (z : Sized t k) where
   forth = forthOf low distances L n K 0 K
 
   abbrev back : List Demand
-  back = backOf up distances L n K K
+  back = backOf up (ledBy (leadsIn t k)) distances L n K K
 
   abbrev starts : List Demand
   starts = startDemands K anyStarts 1 n
 
-  -- What is lowered is, constraint by constraint and in the same order, what the demands in ticks are in parts.
-  pub steps-same : steps ≡ allInParts P (forthOf (keysOf false t) distances L n K 0 K ++ backOf (keysOf true t) distances L n K K)
-  unfolding forthEdges backEdges
-  steps-same =
-      rw (
-        forth-scaled t k z P (omega arith) (sized-parts t k z),
-        back-scaled t k z P (omega arith) (sized-parts t k z),
-        edges-scaled P (forthOf (keysOf false t) distances L n K 0 K),
-        edges-scaled P (backOf (keysOf true t) distances L n K K),
-      )
-      (sym (map-append (inParts P) (forthOf (keysOf false t) distances L n K 0 K) (backOf (keysOf true t) distances L n K K)))
-
   -- ---- they are all but those between the start and the last resets before it
   steps-among : (c : Constraint) → List·Memᴰ c steps → List·Memᴰ c cs
-  unfolding constraintsOf forthEdges backEdges
+  unfolding constraintsOf forthEdges ledBackEdges
   steps-among c m =
       ⊎-elim
       (edges-among forth (partners ++ (forth ++ (back ++ starts)))
@@ -146,7 +135,7 @@ module _ (t : Table) (k : ℕ) (z : Sized t k) where
     gain : c .gain ≡ 0
 
   all-cases : (c : Constraint) → List·Memᴰ c cs → List·Memᴰ c steps ⊎ AtStart c
-  unfolding constraintsOf forthEdges backEdges
+  unfolding constraintsOf forthEdges ledBackEdges
   all-cases c m = go (Memᴰ·of-map edge (partners ++ (forth ++ (back ++ starts))) m)
     where
       partner : (d : Demand) → edge d ≡ c → (b : ℕ) × (0 < b) × (d ≡ plus (K + b) 0 0 false) → AtStart c

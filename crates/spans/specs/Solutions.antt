@@ -61,12 +61,12 @@ module _ (t : Table) (k : ℕ) (z : Sized t k) where
   unfolding constraintsOf
   all-weights =
       record {
-        gain = slight-gains P (sweep R) (rows-sound t LogIn k z .slight);
+        gain = λ c m. omega (arith, slight-gains P (sweep R) (rows-sound t LogIn k z .slight) c m);
         loss = λ c m. loss c (Memᴰ·of-map edge (sweep R) m);
       }
     where
       loss : (c : Constraint) → (d : Demand) × List·Memᴰ d (sweep R) × (edge d ≡ c) → c .loss ≤ unit
-      loss c d = rw (← d .2) (rows-sound t LogIn k z .slight (d .0) (d .1) .loss)
+      loss c d = rw (← d .2) (omega (arith, rows-sound t LogIn k z .slight (d .0) (d .1) .loss))
 
   -- ---- solutions
   unfoldable satisfied : (y : ℕ → ℕ) → All cs y → Satisfies P y (demands n σ D)

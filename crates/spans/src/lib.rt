@@ -1,6 +1,7 @@
 // When each step of k rounds may happen, counted in parts from log-in: its first moment, and its last one or that it has none.
 use last_resets::distances;
-use latest::settle;
+use leads::leads;
+use led_latest::settle_all;
 use lowering::NONE;
 use paths::fill;
 use runs::Start;
@@ -25,17 +26,18 @@ fn last_moments(
     k: usize,
     low: &[u64],
     up: &[u64],
+    leads: &[u64],
     far: &[usize],
     late: &mut [u64],
 ) -> bool
-    requires { ⌜ Sized t k × Plannable t k × Computed t k (now low) (now up) (now far) × (partsOf t k ≤ length (now late)) ⌝ }
+    requires { ⌜ Sized t k × Plannable t k × Computed t k (now low) (now up) (now leads) (now far) × (partsOf t k ≤ length (now late)) ⌝ }
     ensures { λ r. ⌜ (r ≡ true) × Bounding t k (now (late .exit)) ⌝ }
 {
     let total = k * t.steps;
     fill(late, total + t.clocks + 1, 0);
     fill(late, total + 1, NONE);
     late[0] = 0;
-    settle(low, up, far, t.steps, t.clocks, total, late);
+    settle_all(low, up, leads, far, t.steps, t.clocks, total, late);
     true
 }
 
@@ -49,10 +51,12 @@ pub fn exact(t: Table, k: usize, firsts: &mut [u64], starts: &mut [u64], lasts: 
     let constants = scaled(t, (total + t.clocks + 1) as u64);
     let low = keys(t, &constants, false);
     let up = keys(t, &constants, true);
+    let led = leads(t, &constants);
     let far = distances(t);
     let found = solve_here(
         &low,
         &up,
+        &led,
         &far,
         Start::LogIn,
         t.steps,
@@ -63,7 +67,7 @@ pub fn exact(t: Table, k: usize, firsts: &mut [u64], starts: &mut [u64], lasts: 
         lasts,
     );
     match found {
-        Solution::Least => last_moments(t, k, &low, &up, &far, lasts),
+        Solution::Least => last_moments(t, k, &low, &up, &led, &far, lasts),
         Solution::Cycle(_) => false,
     }
 }

@@ -1,10 +1,14 @@
 // The effect of one step, as a difference bound matrix in a lent row of cells: see crate effects. A configuration has `side`
 // vertices, now and the clocks that the table has: before the step they are 0 to side - 1, after it the next.
 use closing::close;
+use constraints::bit_of;
+use constraints::down_of;
+use constraints::guard_demand;
+use constraints::twice;
+use constraints::up_of;
+use runs::Demand;
 use table::Guard;
-use table::Relation;
 use table::Table;
-use zones::BASE;
 use zones::ZERO;
 use zones::tighten;
 use zones::unbounded;
@@ -13,14 +17,14 @@ ghost use mathlib.Core.List.{[], _∷_};
 ghost use mathlib.Core.Bool.{false, cond};
 ghost use Prim.Native.Nat.{_-_, _<_, _≤_};
 ghost use lib.ListN.{length};
-ghost use Rattle.table.specs.Step.{FairGuard, stepAt, Good};
+ghost use Rattle.table.specs.Step.{upOf, downOf, endOf, FairGuard, stepAt, Good};
 ghost use Rattle.runs.specs.Demand.{plus, guardDemands, guardsDemands};
 ghost use Rattle.effects.specs.Demands.{each};
-ghost use Rattle.effects.specs.StepDemands.{resetDemands, clockDemands, Uses};
+ghost use Rattle.effects.specs.StepDemands.{resetDemands, clockDemands, Uses, Short};
 ghost use Rattle.effects.specs.Whole.{Side, whole};
 ghost use Rattle.effects.specs.Tells.{Tells};
 ghost use Rattle.zones.specs.Cells.{matrix};
-ghost use Rattle.steps.specs.Puts.{putsOf};
+ghost use Rattle.steps.specs.Puts.{putOf, putsOf};
 
 // The vertex of clock j's last reset after the step: the step, or its last reset before.
 fn last(side: usize, j: usize, reset: bool) -> usize
@@ -41,25 +45,41 @@ fn clock(cells: &mut [u64], side: usize, j: usize, reset: bool)
     tighten(cells, side + j, from, ZERO);
 }
 
-// A guard, on the time from its clock's last reset to the step.
-fn guard(cells: &mut [u64], side: usize, g: Guard)
-    requires { ⌜ FairGuard g × (g .clock < side) × (side ≤ 7) × (length (now cells) ≡ 441) ⌝ }
-    ensures { λ _. ⌜ now (cells .exit)
-        ≡ putsOf (guardDemands (g .relation) (g .constant) (g .clock) side) (now (cells .entry)) ⌝ }
+// The vertex that a guard's clock is compared with: the step, or the last reset of the second clock before.
+fn end(second: usize, side: usize) -> usize
+    requires { ⌜ second < side ⌝ }
+    ensures { λ r. ⌜ (r ≡ endOf second side (λ j. j)) × (r ≤ side) ⌝ }
 {
-    let j = g.clock as usize;
-    let c = 2 * g.constant as u64;
+    if second == 0 { side } else { second }
+}
+
+// A demand put in.
+pub fn put(cells: &mut [u64], d: Demand)
+    requires { ⌜ (length (now cells) ≡ 441) × Short 21 d ⌝ }
+    ensures { λ _. ⌜ now (cells .exit) ≡ putOf d (now (cells .entry)) ⌝ }
+{
+    let strict = bit_of(d.strict);
+    tighten(cells, d.from, d.to, ZERO + 2 * d.up - 2 * d.down - strict);
+}
+
+// A guard, on the time from its clock's last reset to the step, or to the last reset of its second clock.
+fn guard(cells: &mut [u64], side: usize, g: Guard)
+    requires { ⌜ FairGuard g × (g .clock < side) × (g .second < side) × (side ≤ 7) × (length (now cells) ≡ 441) ⌝ }
+    ensures { λ _. ⌜ now (cells .exit)
+        ≡ putsOf (guardDemands (g .relation) (upOf g) (downOf g) (g .clock) (endOf (g .second) side (λ j. j))) (now (cells .entry)) ⌝ }
+{
     let relation = g.relation;
-    match relation {
-        Relation::Under => tighten(cells, j, side, BASE + c),
-        Relation::AtMost => tighten(cells, j, side, ZERO + c),
-        Relation::Exactly => {
-            tighten(cells, j, side, ZERO + c);
-            tighten(cells, side, j, ZERO - c);
-        }
-        Relation::AtLeast => tighten(cells, side, j, ZERO - c),
-        Relation::Over => tighten(cells, side, j, BASE - c),
+    let j = g.clock as usize;
+    let e = end(g.second as usize, side);
+    let up = up_of(g);
+    let down = down_of(g);
+    let first = guard_demand(relation, up, down, j, e, false);
+    put(cells, first);
+    if !twice(relation) {
+        return;
     }
+    let second = guard_demand(relation, up, down, j, e, true);
+    put(cells, second);
 }
 
 // Time does not go back, and every clock.

@@ -20,12 +20,13 @@ use Rattle.constraints.specs.Demands.{demandsOf}
 use Rattle.constraints.specs.Sized.{Sized, stepsPart, startsPart, parts-are}
 use Rattle.sides.specs.Sides.{Side}
 use Rattle.sides.specs.Covers.{Covers, Stronger, covers-append, covers-same}
-use Rattle.sides.specs.Tight.{least, keyDemands, tight, tight-zero, tight-suc, covers-tight}
+use Rattle.runs.specs.DemandOrder.{guardsDemands-same}
+use Rattle.sides.specs.Tight.{paired, member-paired, least, keyDemands, tight, tight-zero, tight-suc, covers-tight}
 use Rattle.sides.specs.Keys.{keysOf, keys-at}
 use Rattle.last_resets.specs.Since.{stepOf, lastResets}
 use Rattle.last_resets.specs.Rounds.{demandsFrom, steps-are}
 use Rattle.last_resets.specs.Distance.{lastOf, distancesOf, distances-at, last-of}
-use Rattle.sweeps.specs.Order.{cell, sideOf, side-none, side-more, forthAt, forthOf, backAt, backOf, partnersFrom, sweepOf}
+use Rattle.sweeps.specs.Order.{cell, sideOf, side-none, side-more, leadsAt, forthAt, forthOf, upperAt, backAt, backOf, upperOf, partnersFrom, sweepOf}
 
 -- ---- the demands of some steps are those of each
 -- a step from i on, of m steps, whose list has d
@@ -65,22 +66,45 @@ module _ (low far : List ℕ) (L n K : ℕ) where
       go h (yes e) = Memᴰ·append-left _ (rw e at k)
       go h (no e) = Memᴰ·append-right (forthAt low far L n K i) (h (omega arith) (omega arith) k)
 
-module _ (up far : List ℕ) (L n K : ℕ) where
-  pub back-among : (i : ℕ) (d : Demand) → List·Memᴰ d (backOf up far L n K i) → Among (backAt up far L n K) 0 i d
+module _ (up : List ℕ) (T : Table) (far : List ℕ) (L n K : ℕ) where
+  pub back-among : (i : ℕ) (d : Demand) → List·Memᴰ d (backOf up T far L n K i) → Among (backAt up T far L n K) 0 i d
   unfolding backOf
   back-among zero d k = absurd (List·Memᴰ·not-nil k)
   back-among (suc i) d k =
-      ⊎-elim among-last (λ l. among-before (back-among i d l)) (List·Memᴰ·append-cases (backAt up far L n K i) k)
+      ⊎-elim among-last (λ l. among-before (back-among i d l)) (List·Memᴰ·append-cases (backAt up T far L n K i) k)
 
-  pub among-back : (i s : ℕ) (d : Demand) → s < i → List·Memᴰ d (backAt up far L n K s) → List·Memᴰ d (backOf up far L n K i)
+  pub among-back : (i s : ℕ) (d : Demand) → s < i → List·Memᴰ d (backAt up T far L n K s) → List·Memᴰ d (backOf up T far L n K i)
   unfolding backOf
   among-back zero s d b k = absurd (omega arith)
   among-back (suc i) s d b k = go (among-back i s d) (ℕ-discrete s i)
     where
-      go : (s < i → List·Memᴰ d (backAt up far L n K s) → List·Memᴰ d (backOf up far L n K i)) → Dec (s ≡ i)
-          → List·Memᴰ d (backAt up far L n K i ++ backOf up far L n K i)
+      go : (s < i → List·Memᴰ d (backAt up T far L n K s) → List·Memᴰ d (backOf up T far L n K i)) → Dec (s ≡ i)
+          → List·Memᴰ d (backAt up T far L n K i ++ backOf up T far L n K i)
       go h (yes e) = Memᴰ·append-left _ (rw e at k)
-      go h (no e) = Memᴰ·append-right (backAt up far L n K i) (h (omega arith) k)
+      go h (no e) = Memᴰ·append-right (backAt up T far L n K i) (h (omega arith) k)
+
+module _ (up far : List ℕ) (L n K : ℕ) where
+  pub upper-among : (i : ℕ) (d : Demand) → List·Memᴰ d (upperOf up far L n K i) → Among (upperAt up far L n K) 0 i d
+  unfolding upperOf
+  upper-among zero d k = absurd (List·Memᴰ·not-nil k)
+  upper-among (suc i) d k =
+      ⊎-elim among-last (λ l. among-before (upper-among i d l)) (List·Memᴰ·append-cases (upperAt up far L n K i) k)
+
+  pub among-upper : (i s : ℕ) (d : Demand) → s < i → List·Memᴰ d (upperAt up far L n K s) → List·Memᴰ d (upperOf up far L n K i)
+  unfolding upperOf
+  among-upper zero s d b k = absurd (omega arith)
+  among-upper (suc i) s d b k = go (among-upper i s d) (ℕ-discrete s i)
+    where
+      go : (s < i → List·Memᴰ d (upperAt up far L n K s) → List·Memᴰ d (upperOf up far L n K i)) → Dec (s ≡ i)
+          → List·Memᴰ d (upperAt up far L n K i ++ upperOf up far L n K i)
+      go h (yes e) = Memᴰ·append-left _ (rw e at k)
+      go h (no e) = Memᴰ·append-right (upperAt up far L n K i) (h (omega arith) k)
+
+  -- they are some of all those back
+  pub upper-back : (T : Table) (i : ℕ) (d : Demand) → List·Memᴰ d (upperOf up far L n K i) → List·Memᴰ d (backOf up T far L n K i)
+  upper-back T i d m =
+      let a = upper-among i d m in
+      among-back up T far L n K i (a .step) d (omega (arith, a .last)) (Memᴰ·append-left _ (a .member))
 
 module _ (t : Table) (K : ℕ) where
   -- the demands of step i
@@ -196,7 +220,7 @@ module _ (t : Table) (k : ℕ) (z : Sized t k) where
   forth-at = forthAt (keysOf false t) far L n K
 
   abbrev back-at : ℕ → List Demand
-  back-at = backAt (keysOf true t) far L n K
+  back-at = backAt (keysOf true t) t far L n K
 
   -- at each step they stand for all
   covers-step : (i : ℕ) → Covers (forth-at i ++ back-at i) (ownAt t K i)
@@ -209,25 +233,35 @@ module _ (t : Table) (k : ℕ) (z : Sized t k) where
       member : List·Memᴰ (stepOf t i) (stepsOf t)
       member = step-member t (i % L) (within i)
 
+      leads-same : leadsAt t far K (i % L) i ≡ guardsDemands (paired (stepOf t i .guards)) (suc i) (lastResets t K i)
+      leads-same =
+          guardsDemands-same (paired (stepOf t i .guards)) (suc i) _ (lastResets t K i)
+          (λ g m. z .good .fair (stepOf t i) member .guards g (member-paired (stepOf t i .guards) g m))
+          (λ j p l.
+          ap (λ d. lastOf d K i j) (distances-at t (i % L) j (z .good .steps-few) (within i) l)
+          ∙ sym (last-of t K i j (z .good .steps-some)))
+
       same : forth-at i ++ back-at i
           ≡ (plus (suc i) i 0 false ∷ [])
           ++ (tight false (stepOf t i .guards) (suc i) (lastResets t K i) 1 n
-          ++ tight true (stepOf t i .guards) (suc i) (lastResets t K i) 1 n)
+          ++ (tight true (stepOf t i .guards) (suc i) (lastResets t K i) 1 n
+          ++ guardsDemands (paired (stepOf t i .guards)) (suc i) (lastResets t K i)))
       same =
           rw (
             side-tight false i 1 n (omega (arith, z .good .clocks-few)),
             side-tight true i 1 n (omega (arith, z .good .clocks-few)),
+            leads-same,
           )
 
   abbrev all-forth : List Demand
   all-forth = forthOf (keysOf false t) far L n K 0 K
 
   abbrev all-back : List Demand
-  all-back = backOf (keysOf true t) far L n K K
+  all-back = backOf (keysOf true t) t far L n K K
 
   steps-among : (d : Demand) → List·Memᴰ d (all-forth ++ all-back) → List·Memᴰ d (demandsFrom t K 0 K)
   steps-among d m =
-      ⊎-elim (λ l. forth (forth-among (keysOf false t) far L n K 0 K d l)) (λ l. back (back-among (keysOf true t) far L n K K d l))
+      ⊎-elim (λ l. forth (forth-among (keysOf false t) far L n K 0 K d l)) (λ l. back (back-among (keysOf true t) t far L n K K d l))
       (List·Memᴰ·append-cases all-forth m)
     where
       forth : Among forth-at 0 K d → List·Memᴰ d (demandsFrom t K 0 K)
@@ -252,13 +286,13 @@ module _ (t : Table) (k : ℕ) (z : Sized t k) where
                 (λ l. Memᴰ·append-left all-back
                 (among-forth (keysOf false t) far L n K 0 K (a .step) (c .0) (a .first) (a .last) l))
                 (λ l. Memᴰ·append-right all-forth
-                (among-back (keysOf true t) far L n K K (a .step) (c .0) (omega (arith, a .last)) l))
+                (among-back (keysOf true t) t far L n K K (a .step) (c .0) (omega (arith, a .last)) l))
                 (List·Memᴰ·append-cases (forth-at (a .step)) (c .1)),
             c .2,
           )
 
   -- What a pass checks stands for all demands.
-  pub covers-sweep : (v : Start) → Covers (sweepOf (keysOf false t) (keysOf true t) far (startsOf v) L n K) (demandsOf t v k)
+  pub covers-sweep : (v : Start) → Covers (sweepOf (keysOf false t) (keysOf true t) t far (startsOf v) L n K) (demandsOf t v k)
   covers-sweep v =
       let partners = partnersFrom K (startsOf v) 1 n in
       let starts = startDemands K anyStarts 1 n in

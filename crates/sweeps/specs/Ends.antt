@@ -13,10 +13,10 @@ use Rattle.runs.specs.declared.Demand.{Demand}
 use Rattle.runs.specs.Demand.{plus, Starts, moment, moved, startDemands, anyStarts}
 use Rattle.runs.specs.Start.{Upper}
 use Rattle.runs.specs.Tools.{Every, every-nil, every-append, every-map}
-use Rattle.sides.specs.Sides.{Side}
+use Rattle.sides.specs.Sides.{Side, none}
 use Rattle.sides.specs.Tight.{keyDemand, keyDemands, key-demands-listed}
 use Rattle.last_resets.specs.Distance.{lastOf, reached, reached-yes, reached-no}
-use Rattle.sweeps.specs.Order.{cell, sideOf, forthAt, forthOf, backAt, backOf, partnersFrom}
+use Rattle.sweeps.specs.Order.{cell, sideOf, forthAt, forthOf, partnersFrom}
 
 -- a moment up to i, or the last reset of a clock before the start
 abbrev pub Earlier : ℕ → ℕ → ℕ → Type 0
@@ -44,8 +44,33 @@ last-in (suc d) K i j = go (decLe (suc d) i)
     go (yes l) = rw (reached-yes (suc d) i l, eqb·suc-zero d) (inr (omega arith))
     go (no l) = rw (reached-no (suc d) i (omega arith)) (inl refl)
 
+-- one of these, if its distance is not too long
+pub last-past : (d K i j : ℕ) → 0 < d → d ≤ i → lastOf d K i j ≤ i
+unfolding lastOf
+last-past zero K i j p l = absurd (omega arith)
+last-past (suc d) K i j p l = rw (reached-yes (suc d) i l, eqb·suc-zero d) (omega arith)
+
 reset-earlier : (d K i j : ℕ) → 0 < j → Earlier K i (lastOf d K i j)
 reset-earlier d K i j p = ⊎-elim (λ e. inr (omega (arith, e))) (λ h. inl h) (last-in d K i j)
+
+-- a demand of a side is that of a clock
+pub record OfClock (b : Side) (keys far : List ℕ) (K s i j m : ℕ) (d : Demand) : Type 0 where
+  pub clock : ℕ
+  pub first : j ≤ clock
+  pub last : clock < j + m
+  pub key : getD keys (cell s clock) 0 < none
+  pub is : d ≡ keyDemand b (getD keys (cell s clock) 0) (lastOf (getD far (cell s clock) 0) K i clock) (suc i)
+
+pub side-clock : (b : Side) (keys far : List ℕ) (K s i j m : ℕ) (d : Demand) → List·Memᴰ d (sideOf b keys far K s i j m) → OfClock b keys far K s i j m d
+unfolding sideOf
+side-clock b keys far K s i j zero d k = absurd (List·Memᴰ·not-nil k)
+side-clock b keys far K s i j (suc m) d k =
+    ⊎-elim
+    (λ h. let e = key-demands-listed b (getD keys (cell s j) 0) (lastOf (getD far (cell s j) 0) K i j) (suc i) d h in
+    record { clock = j; first = omega arith; last = omega arith; key = e .0; is = e .1 })
+    (λ h. let r = side-clock b keys far K s i (suc j) m d h in
+    record { clock = r .clock; first = omega (arith, r .first); last = omega (arith, r .last); key = r .key; is = r .is })
+    (List·Memᴰ·append-cases (keyDemands b (getD keys (cell s j) 0) (lastOf (getD far (cell s j) 0) K i j) (suc i)) k)
 
 pub side-ends : (b : Side) (keys far : List ℕ) (K s i j m : ℕ) → 0 < j → (d : Demand)
     → List·Memᴰ d (sideOf b keys far K s i j m) → EndsAt b K i d
@@ -80,32 +105,16 @@ forth-raises low far L n K i (suc m) d k =
     (λ l. let e = forth-raises low far L n K (suc i) m d l in (omega (arith, e .0), omega (arith, e .1)))
     (List·Memᴰ·append-cases (forthAt low far L n K i) k)
 
--- ---- back
--- the ends of those of the first i steps
-pub back-ends : (up far : List ℕ) (L n K i : ℕ) (d : Demand) → List·Memᴰ d (backOf up far L n K i)
-    → (0 < d .to) × (d .to ≤ i) × ((d .from < i) ⊎ (K < d .from))
-unfolding backOf
-back-ends up far L n K zero d k = absurd (List·Memᴰ·not-nil k)
-back-ends up far L n K (suc i) d k =
-    ⊎-elim here (λ l. let e = back-ends up far L n K i d l in
-    (e .0, omega (arith, e .1), ⊎-elim (λ h. inl (omega arith)) (λ h. inr h) (e .2)))
-    (List·Memᴰ·append-cases (backAt up far L n K i) k)
-  where
-    here : List·Memᴰ d (backAt up far L n K i) → (0 < d .to) × (d .to ≤ suc i) × ((d .from < suc i) ⊎ (K < d .from))
-    here l =
-        let e = side-ends true up far K (i % L) i 1 n (omega arith) d l in
-        (omega (arith, e .0), omega (arith, e .0), ⊎-elim (λ h. inl (omega arith)) (λ h. inr h) (e .1))
-
 -- ---- partners
 -- from the last reset of a clock before the start, to the start
 abbrev pub ToStart : ℕ → Demand → Type 0
 ToStart K d = (K < d .from) × (d .to ≡ 0)
 
-moved-ends : (K : ℕ) (d : Demand) → d .to ≡ 0 → d .from ≢ d .to → ToStart K (moved K d)
-moved-ends K d e n = (go (d .from) (λ f. n (f ∙ sym e)), ap (moment K) e)
+moved-ends : (K : ℕ) (d : Demand) → d .to ≡ 0 → 0 < d .from → ToStart K (moved K d)
+moved-ends K d e p = (go (d .from) p, ap (moment K) e)
   where
-    go : (a : ℕ) → a ≢ 0 → K < moment K a
-    go zero h = absurd (h refl)
+    go : (a : ℕ) → 0 < a → K < moment K a
+    go zero h = absurd (omega arith)
     go (suc a) h = omega arith
 
 pub partners-ends : (K n : ℕ) (D : Starts) → Upper n D → (j m : ℕ) → 0 < j → j + m ≤ suc n → Every (ToStart K) (partnersFrom K D j m)
@@ -114,7 +123,7 @@ partners-ends K n D u j zero p b = every-nil (ToStart K)
 partners-ends K n D u j (suc m) p b =
     every-append (ToStart K) (map (moved K) (D j)) _ .1 (
       every-map (ToStart K) (moved K) (D j) .1
-          (λ d k. moved-ends K d (u .ends j p (omega arith) d k) (u .proper j p (omega arith) d k .apart)),
+          (λ d k. moved-ends K d (u .ends j p (omega arith) d k) (u .begins j p (omega arith) d k)),
       partners-ends K n D u (suc j) m (omega arith) (omega arith),
     )
 

@@ -12,15 +12,15 @@ use Rattle.table.specs.declared.Table.{Table}
 use Rattle.runs.specs.declared.Demand.{Demand}
 use Rattle.runs.specs.declared.Start.{Start}
 use Rattle.runs.specs.declared.Start.the-variants.{LogIn, MidShift}
-use Rattle.runs.specs.Demand.{plus, moment, moved, startDemands, zeroStarts, anyStarts, startsOf}
+use Rattle.runs.specs.Demand.{plus, guardsDemands, moment, moved, startDemands, zeroStarts, anyStarts, startsOf}
 use Rattle.constraints.specs.Sized.{Sized}
 use Rattle.scaling.specs.Constants.{scaledTable, step-scaled}
 use Rattle.sides.specs.Sides.{Side}
-use Rattle.sides.specs.Tight.{least, keyDemands}
+use Rattle.sides.specs.Tight.{paired, least, keyDemands}
 use Rattle.sides.specs.Keys.{keysOf, keys-at}
-use Rattle.sides.specs.Scaled.{scaleDemand, key-demands-scaled}
+use Rattle.sides.specs.Scaled.{scaleDemand, key-demands-scaled, leads-scaled}
 use Rattle.last_resets.specs.Distance.{lastOf, distancesOf}
-use Rattle.sweeps.specs.Order.{cell, sideOf, forthOf, backOf, partnersFrom, sweepOf}
+use Rattle.sweeps.specs.Order.{cell, sideOf, leadsAt, forthOf, backOf, partnersFrom, sweepOf}
 
 -- ---- lists of demands, and demands with constant 0
 module _ (P : ℕ) where
@@ -102,20 +102,28 @@ module _ (t : Table) (k : ℕ) (z : Sized t k) (P : ℕ) (p : 0 < P) (q : P ≤ 
   forth i (suc m) =
       append-scaled P (append-scaled P (zero-scaled P (suc i) i) (sides false i 1 n clocks)) (forth (suc i) m)
 
-  back : (i : ℕ) → Scaled P (backOf (keysOf true T) far L n K i) (backOf (keysOf true t) far L n K i)
+  leads : (i : ℕ) → Scaled P (leadsAt T far K (i % L) i) (leadsAt t far K (i % L) i)
+  leads i =
+      record {
+        is =
+            ap (λ gs. guardsDemands (paired gs) (suc i) (λ j. lastOf (getD far (cell (i % L) j) 0) K i j)) (step-scaled P t (z .good) (i % L) (within i))
+            ∙ leads-scaled P (stepAt t (i % L) .guards) (suc i) (λ j. lastOf (getD far (cell (i % L) j) 0) K i j);
+      }
+
+  back : (i : ℕ) → Scaled P (backOf (keysOf true T) T far L n K i) (backOf (keysOf true t) t far L n K i)
   unfolding backOf
   back zero = nil-scaled P
-  back (suc i) = append-scaled P (sides true i 1 n clocks) (back i)
+  back (suc i) = append-scaled P (append-scaled P (sides true i 1 n clocks) (leads i)) (back i)
 
   -- ---- all steps forth, all steps back, and a whole pass
   pub forth-scaled : forthOf (keysOf false T) far L n K 0 K ≡ map (scaleDemand P) (forthOf (keysOf false t) far L n K 0 K)
   forth-scaled = forth 0 K .is
 
-  pub back-scaled : backOf (keysOf true T) far L n K K ≡ map (scaleDemand P) (backOf (keysOf true t) far L n K K)
+  pub back-scaled : backOf (keysOf true T) T far L n K K ≡ map (scaleDemand P) (backOf (keysOf true t) t far L n K K)
   back-scaled = back K .is
 
   pub sweep-scaled : (v : Start)
-      → sweepOf (keysOf false T) (keysOf true T) far (startsOf v) L n K
-      ≡ map (scaleDemand P) (sweepOf (keysOf false t) (keysOf true t) far (startsOf v) L n K)
+      → sweepOf (keysOf false T) (keysOf true T) T far (startsOf v) L n K
+      ≡ map (scaleDemand P) (sweepOf (keysOf false t) (keysOf true t) t far (startsOf v) L n K)
   sweep-scaled v =
       append-scaled P (partners-scaled P K v 1 n) (append-scaled P (forth 0 K) (append-scaled P (back K) (starts-scaled P K 1 n))) .is

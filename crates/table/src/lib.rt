@@ -11,10 +11,13 @@ pub enum Relation {
     Over,
 }
 
-// A guard on a clock, which is 1 to 6.
+// A guard on a clock, which is 1 to 6; or on its reading less that of a second clock, which is 0 where there is none. The constant is
+// less than 0 where `minus` is true.
 pub struct Guard {
     pub clock: u8,
+    pub second: u8,
     pub relation: Relation,
+    pub minus: bool,
     pub constant: u16,
 }
 

@@ -72,7 +72,7 @@ module _ (bytes : List ℕ) (r : Running) (counters room : List ℕ) (a : Read) 
     pub accepted-clocks : Clocks (t .clocks) (stepsOf t)
     accepted-clocks s m g i =
         let c = legal-clocks (listing bytes) (written .legal) s (rw (represents .same) at m) g i in
-        (c .0, omega (arith, c .1, represents .clocks))
+        (c .0, omega (arith, c .1, represents .clocks), omega (arith, c .2, represents .clocks))
 
     clocks-are : t .clocks ≡ n
     clocks-are = represents .clocks ∙ sym (written .clocks)

@@ -86,7 +86,7 @@ module _ (t : Table) (good : Good t) (own : Clocks (t .clocks) (stepsOf t)) (r :
       guard-member t i k noGuard a (omega (arith, end)) (omega (arith, end, room, good .guards-size))
 
   clock-own : (k : ℕ) → from ≤ k → k < to → (0 < guardAt t k .clock) × (guardAt t k .clock ≤ t .clocks)
-  clock-own k a b = own (stepAt t i) (step-member t i few) (guardAt t k) (of-step k a b)
+  clock-own k a b = let c = own (stepAt t i) (step-member t i few) (guardAt t k) (of-step k a b) in (c .0, c .1)
 
   -- the readings that have aged
   abbrev pub old : List ℕ

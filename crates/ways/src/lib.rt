@@ -14,7 +14,7 @@ ghost use mathlib.Core.Path.{_≡_};
 ghost use Prim.Native.Nat.{_≤_, _%_};
 ghost use Rattle.runs.specs.Demand.{startDemands, anyStarts, startsOf};
 ghost use Rattle.constraints.specs.Partner.{partnerList};
-ghost use Rattle.sweeps.specs.Order.{forthOf, backOf, partnersFrom};
+ghost use Rattle.sweeps.specs.Order.{forthOf, upperOf, partnersFrom};
 ghost use Rattle.paths.specs.State.{state};
 ghost use Rattle.checks.specs.Checks.{Checkable, Checked};
 ghost use Rattle.ways.specs.Forth.{Going};
@@ -126,9 +126,9 @@ pub fn back(
     w: Sweep,
 ) -> Sweep
     requires { ⌜ Going (now up) (now far) steps clocks total × (total % steps ≡ 0)
-        × Checkable (backOf (now up) (now far) steps clocks total total) (state (now time) (now parent) (now stamp))
+        × Checkable (upperOf (now up) (now far) steps clocks total total) (state (now time) (now parent) (now stamp))
         (w .stamp) ⌝ }
-    ensures { λ r. ⌜ Checked (backOf (now (up .entry)) (now (far .entry)) steps clocks total total) (w .raised) (w .stamp)
+    ensures { λ r. ⌜ Checked (upperOf (now (up .entry)) (now (far .entry)) steps clocks total total) (w .raised) (w .stamp)
         (state (now (time .entry)) (now (parent .entry)) (now (stamp .entry)))
         (state (now (time .exit)) (now (parent .exit)) (now (stamp .exit))) (r .raised) (r .stamp) ⌝ }
 {

@@ -1,5 +1,6 @@
 -- How the answer goes on, one record at a time.
 use mathlib.Core.Path.{_≡_, refl, sym, ap, _∙_}
+use mathlib.Core.Bool.{false}
 use mathlib.Core.List.{List}
 use Prim.Native.Nat.{ℕ, _+_, _*_, _≤_, _<_}
 use lib.Dec.{lit<}
@@ -30,11 +31,14 @@ byte-is bytes at k i h n e =
 -- the guard of a record, by its bytes
 pub guard-in : (bytes : List ℕ) (at clock relation low high : ℕ) → clock ≡ getD bytes (at + 1) 0 → relation ≡ getD bytes (at + 2) 0
     → low ≡ getD bytes (at + 3) 0 → high ≡ getD bytes (at + 4) 0
-    → _≡_ {A = Guard} (record { clock = clock; relation = relationOf relation; constant = low + high * 256 }) (guardIn (recordAt at 2 (drop (at + 1) bytes)))
+    → _≡_ {A = Guard} (record { clock = clock; second = 0; relation = relationOf relation; minus = false; constant = low + high * 256 })
+    (guardIn (recordAt at 2 (drop (at + 1) bytes)))
 guard-in bytes at clock relation low high e₁ e₂ e₃ e₄ = λ j.
     record {
       clock = (e₁ ∙ of 0 (lit< tt) (at + 1) (omega arith)) j;
+      second = 0;
       relation = relationOf ((e₂ ∙ of 1 (lit< tt) (at + 2) (omega arith)) j);
+      minus = false;
       constant = (e₃ ∙ of 2 (lit< tt) (at + 3) (omega arith)) j + (e₄ ∙ of 3 (lit< tt) (at + 4) (omega arith)) j * 256;
     }
   where

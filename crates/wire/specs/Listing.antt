@@ -28,7 +28,7 @@ pub data Content : Type 0 where
   close : Content
 
 abbrev pub guardIn : Record → Guard
-guardIn r = record { clock = byte r 0; relation = relationOf (byte r 1); constant = constantOf r }
+guardIn r = record { clock = byte r 0; second = 0; relation = relationOf (byte r 1); minus = false; constant = constantOf r }
 
 abbrev pub contentOf : Record → Content
 contentOf r =

@@ -1,5 +1,5 @@
 -- The row from one demand or guard to the next, and from step to step.
-use mathlib.Core.Path.{_≡_, sym, _∙_, ap}
+use mathlib.Core.Path.{_≡_, sym, _∙_, ap, subst}
 use mathlib.Core.Bool.{false}
 use mathlib.Core.List.{List, [], _∷_, _++_, append-assoc}
 use Prim.Native.Nat.{ℕ, suc, _+_, _*_, _≤_, _<_}
@@ -8,13 +8,13 @@ use native.Mathlib.Numerals.{add-one}
 use native.Mathlib.Omega.{arith}
 use lib.IntN.{ℤ}
 use lib.ListN.{length, getD, drop}
-use Rattle.table.specs.Step.{stepAt, stepsOf}
+use Rattle.table.specs.Step.{stepAt, stepsOf, upOf, downOf, endOf}
 use Rattle.table.specs.declared.Guard.{Guard}
 use Rattle.table.specs.declared.Table.{Table}
 use Rattle.runs.specs.Run.{copies, zeroed}
 use Rattle.runs.specs.declared.Demand.{Demand}
 use Rattle.runs.specs.declared.Start.{Start}
-use Rattle.runs.specs.Demand.{plus, guardDemands, stepsDemands}
+use Rattle.runs.specs.Demand.{plus, guardDemands, demandsAt, stepsDemands}
 use Rattle.runs.specs.DemandOrder.{stepsDemands-cons, stepsDemands-same}
 use Rattle.constraints.specs.Pieces.{resetOf, followingOf, following-round, following-on}
 use Rattle.constraints.specs.Demands.{demandsOf, guardsFrom}
@@ -87,10 +87,11 @@ module _ {t : Table} {k : ℕ} (ready : Ready t k) where
       pub guard-clock : getD (t .guards) g d .clock < 7
       guard-clock = guard-fair t s g d (ready .sound .good) (p .step) (p .first) l .last
 
+      pub guard-second : getD (t .guards) g d .second < 7
+      guard-second = guard-fair t s g d (ready .sound .good) (p .step) (p .first) l .second
+
       abbrev here : List Demand
-      here =
-          guardDemands (getD (t .guards) g d .relation) (getD (t .guards) g d .constant)
-          (getD z (getD (t .guards) g d .clock) 0) (i + 1)
+      here = demandsAt (getD (t .guards) g d) (i + 1) (λ j. getD z j 0)
 
       guard-left : Left old 0 (demandsOf t v k) row q (here ++ (guardsDue t s i z (g + 1) ++ laterDue t v k s i z))
       guard-left =
@@ -101,11 +102,22 @@ module _ {t : Table} {k : ℕ} (ready : Ready t k) where
           ∙ append-assoc here (guardsDue t s i z (g + 1)) (laterDue t v k s i z))
           (p .left)
 
-      pub guard-fits : Fits row q here
-      guard-fits = fits-front here _ (guard-left .fits)
+      -- the same, with the moment e that the clock is compared with
+      abbrev made : ℕ → List Demand
+      made e =
+          guardDemands (getD (t .guards) g d .relation) (upOf (getD (t .guards) g d)) (downOf (getD (t .guards) g d))
+          (getD z (getD (t .guards) g d .clock) 0) e
 
-      pub passed-guard : {row′ : List ℤ} {q′ : ℕ} → Wrote row q here row′ q′ → Inside t v k old row′ q′ i s (g + 1) z
-      passed-guard w =
+      here-is : (e : ℕ) → e ≡ endOf (getD (t .guards) g d .second) (i + 1) (λ j. getD z j 0) → here ≡ made e
+      here-is e h = ap made (sym h)
+
+      pub guard-fits : (e : ℕ) → e ≡ endOf (getD (t .guards) g d .second) (i + 1) (λ j. getD z j 0) → Fits row q (made e)
+      guard-fits e h = subst (Fits row q) (here-is e h) (fits-front here _ (guard-left .fits))
+
+      pub passed-guard : (e : ℕ) → e ≡ endOf (getD (t .guards) g d .second) (i + 1) (λ j. getD z j 0)
+          → {row′ : List ℤ} {q′ : ℕ} → Wrote row q (made e) row′ q′ → Inside t v k old row′ q′ i s (g + 1) z
+      passed-guard e h {row′} {q′} u =
+          let w = subst (λ ds. Wrote row q ds row′ q′) (sym (here-is e h)) u in
           record {
             round = p .round;
             step = p .step;

@@ -59,7 +59,9 @@ pub fn write(t: Table, start: Start, k: usize, row: &mut [i64])
         if g < t.ends[s + 1] {
             let guard = t.guards[g];
             let clock = guard.clock as usize;
-            q = cells::put_guard(row, q, guard, resets[clock], past + 1);
+            let second = guard.second as usize;
+            let end = constraints::end_of(second, past + 1, &resets);
+            q = cells::put_guard(row, q, guard, resets[clock], end);
             g += 1;
             continue;
         }

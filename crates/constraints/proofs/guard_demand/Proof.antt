@@ -11,9 +11,9 @@ use Rattle.constraints.proofs.guard_demand.Statement.{statement}
 use Rattle.constraints.proofs.guard_demand.Tie as tie
 
 -- the arm of the relation s, and of the first or the second demand
-arm : (s : Relation) (e : Bool) (r : Relation) (b : Bool) (c z i : ℕ) (a : Demand)
-    → a ≡ guardDemand s c z i e → r ≡ s → b ≡ e → a ≡ guardDemand r c z i b
-arm s e r b c z i a h p q = rw (p, q) h
+arm : (s : Relation) (f : Bool) (r : Relation) (b : Bool) (u d z e : ℕ) (a : Demand)
+    → a ≡ guardDemand s u d z e f → r ≡ s → b ≡ f → a ≡ guardDemand r u d z e b
+arm s f r b u d z e a h p q = rw (p, q) h
 
 enum-told : tie.Need-enum-told
 enum-told c = search needs
@@ -35,7 +35,7 @@ demand-requires-3 c κs = search needs
 
 returns : tie.Need-returns
 returns c =
-    arm Exactly true _ _ _ _ _ _ (c .demand3 .ensures) (c .before .before .enum-told3 .given .1) (c .before .if1 .taken)
+    arm Exactly true _ _ _ _ _ _ _ (c .demand3 .ensures) (c .before .before .enum-told3 .given .1) (c .before .if1 .taken)
 
 demand-requires-4 : tie.Need-demand-requires-4
 demand-requires-4 c κs = search needs
@@ -54,23 +54,23 @@ demand-requires-6 c κs = search needs
 
 returns-2 : tie.Need-returns-2
 returns-2 c =
-    arm Under _ _ _ _ _ _ _ (c .demand .ensures) (c .before .enum-told .given .1) refl
+    arm Under _ _ _ _ _ _ _ _ (c .demand .ensures) (c .before .enum-told .given .1) refl
 
 returns-3 : tie.Need-returns-3
 returns-3 c =
-    arm AtMost _ _ _ _ _ _ _ (c .demand2 .ensures) (c .before .enum-told2 .given .1) refl
+    arm AtMost _ _ _ _ _ _ _ _ (c .demand2 .ensures) (c .before .enum-told2 .given .1) refl
 
 returns-4 : tie.Need-returns-4
 returns-4 c =
-    arm Exactly false _ _ _ _ _ _ (c .demand4 .ensures) (c .before .before .enum-told3 .given .1) (c .before .if1 .left)
+    arm Exactly false _ _ _ _ _ _ _ (c .demand4 .ensures) (c .before .before .enum-told3 .given .1) (c .before .if1 .left)
 
 returns-5 : tie.Need-returns-5
 returns-5 c =
-    arm AtLeast _ _ _ _ _ _ _ (c .demand5 .ensures) (c .before .enum-told4 .given .1) refl
+    arm AtLeast _ _ _ _ _ _ _ _ (c .demand5 .ensures) (c .before .enum-told4 .given .1) refl
 
 returns-6 : tie.Need-returns-6
 returns-6 c =
-    arm Over _ _ _ _ _ _ _ (c .demand6 .ensures) (c .before .enum-told5 .given .1) refl
+    arm Over _ _ _ _ _ _ _ _ (c .demand6 .ensures) (c .before .enum-told5 .given .1) refl
 
 pub guard-demand-spec : {M : Type 1} → statement M
 guard-demand-spec =

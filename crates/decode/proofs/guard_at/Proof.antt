@@ -1,6 +1,7 @@
 -- `decode::guard_at` meets its contract: its bytes are those of the record at the place.
 use borrow.Author.Needs.{needs}
 use mathlib.Core.Path.{_∙_}
+use mathlib.Core.Bool.{false}
 use Prim.Native.Nat.{_+_, _*_}
 use Rattle.wire.specs.Laws.{guard-in}
 use Rattle.decode.proofs.guard_at.Statement.{statement}
@@ -50,7 +51,9 @@ returns c =
     let s = c .before .before .before .before .before .before in
     (λ j. record {
       clock = c .before .before .before .before .byte-at .result;
+      second = 0;
       relation = c .before .before .relation-of .ensures j;
+      minus = false;
       constant = c .before .byte-at3 .result + c .byte-at4 .result * 256;
     })
     ∙ guard-in (s .args .bytes .now) (s .args .at) _ _ _ _ (c .before .before .before .before .byte-at .ensures .0)

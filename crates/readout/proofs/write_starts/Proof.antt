@@ -1,72 +1,98 @@
--- The invariant: the first j places are written.
-use mathlib.Core.Path.{_≡_, refl}
+-- The times begin with that of the start and are lowered; then the starts are told.
+use mathlib.Core.Path.{refl}
 use borrow.Author.Needs.{needs}
+use borrow.Author.Tests.{not-true}
 use native.Mathlib.Omega.{arith}
-use Prim.Native.Nat.{_-_, _≤_}
-use lib.ListN.{length, length-set}
-use Rattle.paths.specs.Places.{written, written-none, written-more}
-use Rattle.readout.specs.Starting.{startAt, rowed-startable, written-all}
+use Rattle.readout.specs.Late.{began-able, lowered-able, told-plain, told-led}
 use Rattle.readout.proofs.write_starts.Statement.{statement}
 use Rattle.readout.proofs.write_starts.Tie as tie
 
-abbrev Inv-loop : tie.InvT-loop
-Inv-loop low far steps clocks total time starts₀ j₀ starts j =
-    (j ≤ clocks) × (length starts ≡ length starts₀) × (starts ≡ written (startAt low far steps clocks total time) j starts₀)
+-- ---- places: where it began, the times set, and how many steps are looked at
+abbrev start : tie.After-begin → tie.Start
+start c = c .before .before .before .before .before .before .before .before
 
-abbrev μ-loop : tie.MeasureT-loop
-μ-loop low far steps clocks total time starts₀ j₀ starts j = clocks - j
+abbrev begun : tie.After-reach → tie.After-begin
+begun c = c .before .before .before
 
-loop-holds : tie.Need-loop-holds Inv-loop μ-loop
-loop-holds c = (omega arith, refl, written-none _ _)
+abbrev reached : tie.After-descend → tie.After-reach
+reached c = c .before .before
 
-add-start-of : tie.Need-add-start-of Inv-loop μ-loop
-add-start-of c = search needs
+begin-requires : tie.Need-begin-requires
+begin-requires c κs = let r = c .before .before .before .before .before .before .before .pre in omega (arith, r .times)
 
-start-of-requires : tie.Need-start-of-requires Inv-loop μ-loop
-start-of-requires c κs =
-    rowed-startable _ _ _ _ _ _ (c .before .before .before .before .before .before .pre .0) _ (omega (arith, c .loop-test .taken))
+reach-requires : tie.Need-reach-requires
+reach-requires c κs = let r = start (c .before .before) .pre in (r .below .keyed, r .below .reached, r .below .steps)
 
-mul-starts : tie.Need-mul-starts Inv-loop μ-loop
-mul-starts c = search needs
+rem-first : tie.Need-rem-first
+rem-first c = let r = start (begun c) .pre in omega (arith, r .below .some)
 
-slice-write-starts : tie.Need-slice-write-starts Inv-loop μ-loop
-slice-write-starts c = search needs
+descend-requires : tie.Need-descend-requires
+descend-requires c κs =
+    let f = c .before in
+    let b = begun f in
+    let r = start b .pre in
+    (r .below, f .reach .ensures .few, refl, began-able _ _ _ _ _ _ _ _ _ r _ (b .begin .ensures))
 
-add-j : tie.Need-add-j Inv-loop μ-loop
-add-j c = search needs
+any-leads-requires : tie.Need-any-leads-requires
+any-leads-requires c κs = let r = start (begun (reached (c .before .before))) .pre in (r .led .size, omega (arith, r .below .steps))
 
-loop-less : tie.Need-loop-less Inv-loop μ-loop
-loop-less c = search needs
+tell-requires : tie.Need-tell-requires
+tell-requires c κs = search needs
 
-loop-again : tie.Need-loop-again Inv-loop μ-loop
-loop-again c =
-    let l = c .before .before .loop in (
-      omega (arith, c .before .loop-test .taken),
-      simp length-set (l .inv .1),
-      written-more _ (l .j) _ _ _ (omega (arith, c .before .loop-test .taken, c .before .before .before .before .before .before .before .pre .1)) (c .start-of .ensures) (l .inv .2),
-    )
-
-same-length : tie.Need-same-length Inv-loop μ-loop
+same-length : tie.Need-same-length
 same-length c = search needs
 
-returns : tie.Need-returns Inv-loop μ-loop
+same-length-2 : tie.Need-same-length-2
+same-length-2 c = search needs
+
+returns : tie.Need-returns
 returns c =
-    let l = c .before .loop in
-    written-all _ (l .j) _ _ _ (omega (arith, l .inv .0, c .loop-test .left)) (l .inv .2)
+    let d = c .before .before .before .before .before .before .before .before .before in
+    let f = reached d in
+    let b = begun f in
+    told-plain _ _ _ _ _ _ _ _ _ (start b .pre) _ (b .begin .ensures) _ _ _ (f .reach .ensures) (d .descend .ensures) _ (c .before .before .before .before .before .before .any-leads .ensures)
+    (not-true _ (c .before .before .before .before .before .if1 .taken)) _ (c .before .before .tell .ensures)
+
+lower-led-requires : tie.Need-lower-led-requires
+lower-led-requires c κs =
+    let d = c .before .before .before .before .before in
+    let f = reached d in
+    let b = begun f in
+    let r = start b .pre in
+    (r .below, r .above, r .led, r .whole, lowered-able _ _ _ _ _ _ _ _ _ r _ (b .begin .ensures) _ _ _ (f .reach .ensures) (d .descend .ensures))
+
+tell-requires-2 : tie.Need-tell-requires-2
+tell-requires-2 c κs = search needs
+
+same-length-3 : tie.Need-same-length-3
+same-length-3 c = search needs
+
+same-length-4 : tie.Need-same-length-4
+same-length-4 c = search needs
+
+returns-2 : tie.Need-returns-2
+returns-2 c =
+    let d = c .before .before .before .before .before .before .before .before .before .before .before .before .before in
+    let f = reached d in
+    let b = begun f in
+    told-led _ _ _ _ _ _ _ _ _ (start b .pre) _ (b .begin .ensures) _ _ _ (f .reach .ensures) (d .descend .ensures) _ _ (c .before .before .before .before .before .before .before .lower-led .ensures)
+    (c .before .before .tell2 .ensures)
 
 pub write-starts-spec : {M : Type 1} → statement M
 write-starts-spec =
     tie.close
     (tie.spec
-    Inv-loop
-    μ-loop
-    loop-holds
-    add-start-of
-    start-of-requires
-    mul-starts
-    slice-write-starts
-    add-j
-    loop-less
-    loop-again
+    begin-requires
+    reach-requires
+    rem-first
+    descend-requires
+    any-leads-requires
+    tell-requires
     same-length
-    returns)
+    same-length-2
+    returns
+    lower-led-requires
+    tell-requires-2
+    same-length-3
+    same-length-4
+    returns-2)

@@ -1,24 +1,24 @@
 -- The partners, forth, then back, then the starts.
 use mathlib.Core.Path.{_∙_}
 use native.Mathlib.Omega.{arith}
-use Rattle.relaxing.specs.Rows.{going-low, going-up}
-use Rattle.relaxing.specs.Pass.{partners-able, forth-able, back-able, starts-able, pass-swept}
+use Rattle.relaxing.specs.Rows.{going-low}
+use Rattle.relaxing.specs.Pass.{turning, partners-able, forth-able, back-able, starts-able, pass-swept}
 use Rattle.relaxing.proofs.pass.Statement.{statement}
 use Rattle.relaxing.proofs.pass.Tie as tie
 
 -- ---- places: where it began, the partners, and the way forth
 abbrev entry : tie.After-check-partners → tie.Start
-entry c = c .before .before .before .before .before .before .before .before .before .before
+entry c = c .before .before .before .before .before .before .before .before .before .before .before
 
 abbrev started : tie.After-forth → tie.After-check-partners
 started c = c .before .before .before .before .before .before .before .before .before .before
 
-abbrev gone : tie.After-back → tie.After-forth
+abbrev gone : tie.After-turn-back → tie.After-forth
 gone c = c .before .before .before .before .before .before .before .before .before .before
 
 check-partners-requires : tie.Need-check-partners-requires
 check-partners-requires c κs =
-    let p = c .before .before .before .before .before .before .before .before .before .pre in (
+    let p = c .before .before .before .before .before .before .before .before .before .before .pre .0 in (
       omega (arith, p .sound .few),
       omega (arith, p .sound .clocks),
       partners-able _ _ _ p,
@@ -27,25 +27,25 @@ check-partners-requires c κs =
 forth-requires : tie.Need-forth-requires
 forth-requires c κs =
     let o = c .before .before .before .before .before .before .before .before .before in
-    let p = entry o .pre in
+    let p = entry o .pre .0 in
     (going-low _ (p .sound), forth-able _ _ _ p _ _ _ (o .check-partners .ensures))
 
-back-requires : tie.Need-back-requires
-back-requires c κs =
+turn-back-requires : tie.Need-turn-back-requires
+turn-back-requires c κs =
     let f = c .before .before .before .before .before .before .before .before .before in
     let o = started f in
-    let p = entry o .pre in
-    (going-up _ (p .sound), p .sound .whole, back-able _ _ _ p _ _ _ (o .check-partners .ensures) _ _ _ (f .forth .ensures))
+    let p = entry o .pre .0 in
+    (turning _ _ (p .sound) (entry o .pre .1), back-able _ _ _ p _ _ _ (o .check-partners .ensures) _ _ _ (f .forth .ensures))
 
 check-starts-requires : tie.Need-check-starts-requires
 check-starts-requires c κs =
     let b = c .before .before .before .before .before .before .before .before .before in
     let f = gone b in
     let o = started f in
-    let p = entry o .pre in (
+    let p = entry o .pre .0 in (
       p .sound .few,
       p .sound .clocks,
-      starts-able _ _ _ p _ _ _ (o .check-partners .ensures) _ _ _ (f .forth .ensures) _ _ _ (b .back .ensures),
+      starts-able _ _ _ p _ _ _ (o .check-partners .ensures) _ _ _ (f .forth .ensures) _ _ _ (b .turn-back .ensures),
     )
 
 same-length : tie.Need-same-length
@@ -75,7 +75,7 @@ returns c =
     let b = k .before .before .before .before .before .before .before .before .before .before in
     let f = gone b in
     let o = started f in
-    pass-swept _ _ _ (entry o .pre) _ _ _ (o .check-partners .ensures) _ _ _ (f .forth .ensures) _ _ _ (b .back .ensures) _ _ _ (k .check-starts .ensures)
+    pass-swept _ _ _ (entry o .pre .0) _ _ _ (o .check-partners .ensures) _ _ _ (f .forth .ensures) _ _ _ (b .turn-back .ensures) _ _ _ (k .check-starts .ensures)
 
 pub pass-spec : {M : Type 1} → statement M
 pass-spec =
@@ -83,7 +83,7 @@ pass-spec =
     (tie.spec
     check-partners-requires
     forth-requires
-    back-requires
+    turn-back-requires
     check-starts-requires
     same-length
     same-length-2

@@ -4,6 +4,7 @@ use native.Mathlib.Omega.{arith}
 use mathlib.Core.Path.{_≡_, refl, _∙_}
 use Prim.Native.Nat.{_+_, _*_, _-_, _^_}
 use lib.ListN.{length}
+use Rattle.leads.specs.Leads.{none-led}
 use Rattle.paths.specs.State.{state}
 use borrow.Author.Tests.{not-true, not-false}
 use Rattle.relaxing.specs.Rows.{rows, going-low, going-up, sound-moments}
@@ -13,16 +14,16 @@ use Rattle.relaxing.proofs.passes.Statement.{statement}
 use Rattle.relaxing.proofs.passes.Tie as tie
 
 abbrev Inv-loop : tie.InvT-loop
-Inv-loop low up far start steps clocks total time₀ parent₀ stamp₀ marks₀ n q₀ m₀ time parent stamp marks q m =
-    Passing (rows low up far start steps clocks total) (state time₀ parent₀ stamp₀) 17 m (1 + m * 2 ^ 20) q (state time parent stamp)
+Inv-loop low up leads far start steps clocks total time₀ parent₀ stamp₀ marks₀ n led q₀ m₀ time parent stamp marks q m =
+    Passing (rows low up leads far start steps clocks total) (state time₀ parent₀ stamp₀) 17 m (1 + m * 2 ^ 20) q (state time parent stamp)
     × (length marks ≡ length marks₀)
 
 abbrev μ-loop : tie.MeasureT-loop
-μ-loop low up far start steps clocks total time₀ parent₀ stamp₀ marks₀ n q₀ m₀ time parent stamp marks q m = n + 16 - m
+μ-loop low up leads far start steps clocks total time₀ parent₀ stamp₀ marks₀ n led q₀ m₀ time parent stamp marks q m = n + 16 - m
 
 -- ---- places: where the passes began, the loop, what comes before the pass, the pass and the search after it
 abbrev entry : tie.At-loop Inv-loop μ-loop → tie.Start Inv-loop μ-loop
-entry c = c .before .before .before .before .before .before .before .before
+entry c = c .before .before .before .before .before .before .before .before .before .before
 
 abbrev head : tie.After-approach Inv-loop μ-loop → tie.At-loop Inv-loop μ-loop
 head c = c .before .before .before .before .before
@@ -42,9 +43,12 @@ add-n c = search needs
 add-n-2 : tie.Need-add-n-2 Inv-loop μ-loop
 add-n-2 c = search needs
 
+any-leads-requires : tie.Need-any-leads-requires Inv-loop μ-loop
+any-leads-requires c κs = let z = c .before .before .before .before .before .before .before .before .pre .sound in (z .leads .size, omega (arith, z .steps))
+
 loop-holds : tie.Need-loop-holds Inv-loop μ-loop
 loop-holds c =
-    let s = c .before .before .before .before .before .before .before in
+    let s = c .before .before .before .before .before .before .before .before .before in
     (passing-first _ _ (s .pre .sound) (s .pre .begins), refl)
 
 add-loop : tie.Need-add-loop Inv-loop μ-loop
@@ -56,6 +60,7 @@ approach-requires c κs =
     let s = entry l in (
       going-low _ (s .pre .sound),
       going-up _ (s .pre .sound),
+      s .pre .sound .leads,
       passing-low _ _ (s .pre .sound) (s .pre .begins) _ _ _ (l .loop .inv .0),
       passing-able _ _ (s .pre .sound) (s .pre .begins) _ _ _ (l .loop .inv .0),
     )
@@ -65,7 +70,7 @@ pass-requires c κs =
     let a = c .before .before .before .before .before .before .before .before .before in
     let s = entry (head a) in
     let l = head a .loop in
-    approached-passable _ _ (s .pre .sound) (s .pre .begins) _ _ _ (l .inv .0) _ _ (a .approach .ensures)
+    (approached-passable _ _ (s .pre .sound) (s .pre .begins) _ _ _ (l .inv .0) _ _ (a .approach .ensures), none-led _ (s .args .leads .now) (s .args .steps) (head a .before .any-leads .ensures))
 
 same-length : tie.Need-same-length Inv-loop μ-loop
 same-length c =
@@ -219,6 +224,7 @@ passes-spec =
     μ-loop
     add-n
     add-n-2
+    any-leads-requires
     loop-holds
     add-loop
     approach-requires

@@ -1,4 +1,5 @@
 -- `sides::keys` meets its contract: steps before step s are done, and of step s the guards before place i.
+use mathlib.Core.Bool.{false}
 use Prim.Native.Nat.{_+_, _-_, _<_}
 use lib.ListN.{getD}
 use Rattle.table.specs.Step.{FairGuard}
@@ -41,7 +42,7 @@ module _ (c : tie.Then1 Inv-loop μ-loop) where
   start = loop .before .before
 
   abbrev unread : Guard
-  unread = record { clock = 0; relation = Under; constant = 0 }
+  unread = record { clock = 0; second = 0; relation = Under; minus = false; constant = 0 }
 
   inside : loop .loop .i < getD (start .args .t1 .ends) (loop .loop .s + 1) 0
   inside = omega arith
@@ -77,14 +78,14 @@ mul-smaller c = omega (arith, fair (c .before .before) .last)
 array-read-smaller : tie.Need-array-read-smaller Inv-loop μ-loop
 array-read-smaller c = omega (arith, fair (c .before .before) .last)
 
-mul-side-key : tie.Need-mul-side-key Inv-loop μ-loop
-mul-side-key c = search needs
+mul-solo-key : tie.Need-mul-solo-key Inv-loop μ-loop
+mul-solo-key c = search needs
 
-element-copy-out-side-key : tie.Need-element-copy-out-side-key Inv-loop μ-loop
-element-copy-out-side-key c = omega (arith, room (c .before .before), start (c .before .before) .pre .1 .size)
+element-copy-out-solo-key : tie.Need-element-copy-out-solo-key Inv-loop μ-loop
+element-copy-out-solo-key c = omega (arith, room (c .before .before), start (c .before .before) .pre .1 .size)
 
-side-key-requires : tie.Need-side-key-requires Inv-loop μ-loop
-side-key-requires c κs =
+solo-key-requires : tie.Need-solo-key-requires Inv-loop μ-loop
+solo-key-requires c κs =
     let p = c .before .before .before in
     start p .pre .1 .small (loop p .loop .s) (loop p .loop .i) (p .before .before .loop-test .taken) (loop p .loop .inv .first) (inside p)
 
@@ -110,7 +111,7 @@ loop-again c =
     let s = h .before .before in
     filled-guard (s .args .upper) (s .args .t1) (s .pre .0) (s .args .constants .now) _
     (h .loop .s) (h .loop .i) (h .loop .inv) (p .before .before .loop-test .taken) (inside p) _ _ _
-    (c .before .side-key .ensures) (c .smaller .ensures)
+    (c .before .solo-key .ensures) (c .smaller .ensures)
 
 add-s : tie.Need-add-s Inv-loop μ-loop
 add-s c = search needs
@@ -150,9 +151,9 @@ keys-spec =
     add-at
     mul-smaller
     array-read-smaller
-    mul-side-key
-    element-copy-out-side-key
-    side-key-requires
+    mul-solo-key
+    element-copy-out-solo-key
+    solo-key-requires
     smaller-requires
     mul-row
     array-write-row

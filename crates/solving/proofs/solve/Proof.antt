@@ -11,7 +11,7 @@ use Rattle.solving.proofs.solve.Tie as tie
 
 -- ---- places: where it began, the start values, the passes
 abbrev start : tie.After-fill → tie.Start
-start c = c .before .before .before .before .before .before .before .before .before .before .before .before
+start c = c .before .before .before .before .before .before .before .before .before .before .before .before .before
 
 abbrev filled : tie.After-passes-arg4 → tie.After-fill
 filled c = c .before .before .before .before .before .before
@@ -21,7 +21,7 @@ passed c = c .before .before .before .before .before .before .before .before
 
 -- the passes begin with the start values
 ready : (c : tie.After-fill) → Ready
-    (rows (start c .args .low .now) (start c .args .up .now) (start c .args .far .now) (start c .args .start) (start c .args .steps) (start c .args .clocks)
+    (rows (start c .args .low .now) (start c .args .up .now) (start c .args .leads .now) (start c .args .far .now) (start c .args .start) (start c .args .steps) (start c .args .clocks)
     (start c .args .total))
     (state (c .fill .last .0) (start c .args .parent .now) (start c .args .stamp .now)) (start c .args .marks .now)
 ready c = let s = start c in start-ready _ (s .pre .0) _ _ _ _ _ (s .pre .2) (c .fill .ensures)
@@ -98,7 +98,7 @@ write-starts-requires c κs =
     let p = passed (c .before .before .before .before .before .before .before .before) in
     let f = filled (p .before) in
     let s = start f in
-    (answer-rowed _ (s .pre .0) _ _ _ (ready f .begins) (p .passes .ensures), s .pre .1 .starts)
+    answer-rowed _ (s .pre .0) _ _ _ (ready f .begins) (p .passes .ensures) (c .before .before .before .before .before .before .before .if1 .left) _ (s .pre .1 .starts)
 
 same-length-6 : tie.Need-same-length-6
 same-length-6 c = search needs
@@ -120,13 +120,11 @@ same-length-11 c = search needs
 
 returns-2 : tie.Need-returns-2
 returns-2 c =
-    let p = passed (c .before .before .before .before .before .before .before .before .before .before .before) in
+    let p = passed (c .before .before .before .before .before .before .before .before .before .before .before .before .before) in
     let f = filled (p .before) in
     let s = start f in
-    answer-plan _ (s .pre .0) _ _ _ (ready f .begins) (p .passes .ensures)
-    (c .before .before .before .before .before .before .before .before .before .before .if1 .left) _ _ _ _ _ (s .pre .1 .starts)
-    (c .before .before .before .before .before .before .before .write-moments .ensures)
-    (c .before .before .write-starts .ensures)
+    answer-plan _ (s .pre .0) _ _ _ (ready f .begins) (p .passes .ensures) (c .before .before .before .before .before .before .before .before .before .before .before .before .if1 .left) _ _ _ _ _ _
+    (c .before .before .before .before .before .before .before .before .before .write-moments .ensures) (c .before .before .before .before .write-starts .ensures)
 
 pub solve-spec : {M : Type 1} → statement M
 solve-spec =

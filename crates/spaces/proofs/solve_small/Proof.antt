@@ -19,7 +19,7 @@ slice-aggregate-solve-4 c = search needs
 
 solve-requires : tie.Need-solve-requires
 solve-requires c κs =
-    let s = c .before .before .before .before .before .before .before .before .before .before .before .before .before in
+    let s = c .before .before .before .before .before .before .before .before .before .before .before .before .before .before in
     (s .pre .0, s .pre .1, spacious _ 64 (omega (arith, s .pre .2)))
 
 same-length : tie.Need-same-length

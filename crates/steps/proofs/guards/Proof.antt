@@ -59,7 +59,9 @@ guard-requires c κs =
     let s = h .before .before .before .before in (
       guard-fair (s .args .t3) (s .args .i) (h .loop .k) _ (s .pre .0) (s .pre .1) (h .loop .inv .0) (omega arith),
       s .pre .2 .guards _ (guard-member (s .args .t3) (s .args .i) (h .loop .k) _ (h .loop .inv .0) (omega arith)
-          (omega (arith, s .pre .0 .guards-size))),
+          (omega (arith, s .pre .0 .guards-size))) .0,
+      s .pre .2 .guards _ (guard-member (s .args .t3) (s .args .i) (h .loop .k) _ (h .loop .inv .0) (omega arith)
+          (omega (arith, s .pre .0 .guards-size))) .1,
       search needs,
       search needs,
     )

@@ -3,7 +3,7 @@ use mathlib.Core.Path.{_≡_, sym}
 use borrow.Author.Needs.{needs}
 use native.Mathlib.Omega.{arith}
 use Prim.Native.Nat.{_-_, _%_, _≤_}
-use Rattle.sweeps.specs.Order.{backOf}
+use Rattle.sweeps.specs.Order.{upperOf}
 use Rattle.paths.specs.State.{state}
 use Rattle.checks.specs.Turns.{Turn, turn-first, turn-size}
 use Rattle.ways.specs.Forth.{going-placed}
@@ -13,8 +13,8 @@ use Rattle.ways.proofs.back.Tie as tie
 
 abbrev Inv-loop : tie.InvT-loop
 Inv-loop up far steps clocks total time₀ parent₀ stamp₀ swept₀ i₀ s₀ time parent stamp swept i s =
-    Turn (backOf up far steps clocks total total) (swept₀ .raised) (swept₀ .stamp) (state time₀ parent₀ stamp₀)
-    (backOf up far steps clocks total i) (swept .raised) (swept .stamp) (state time parent stamp)
+    Turn (upperOf up far steps clocks total total) (swept₀ .raised) (swept₀ .stamp) (state time₀ parent₀ stamp₀)
+    (upperOf up far steps clocks total i) (swept .raised) (swept .stamp) (state time parent stamp)
     × (s ≡ i % steps)
     × (i ≤ total)
 

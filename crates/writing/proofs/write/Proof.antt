@@ -6,7 +6,7 @@ use mathlib.Core.Bool.{cond}
 use Prim.Native.Nat.{ℕ, _+_, _*_, _-_, _<_}
 use Rattle.writing.specs.Passed.{Inside, Going, outside, inside, as-outside, as-inside, as-done, going-inside}
 use Rattle.writing.specs.Ends.{passed-first, starts-fit, passed-long, passed-done}
-use Rattle.writing.specs.Steps.{order-fits, passed-order, inside-step, inside-moment, inside-guard, guard-clock}
+use Rattle.writing.specs.Steps.{order-fits, passed-order, inside-step, inside-moment, inside-guard, guard-clock, guard-second}
 use Rattle.writing.specs.Steps.{guard-fits, passed-guard, passed-step}
 use Rattle.writing.proofs.write.Statement.{statement}
 use Rattle.writing.proofs.write.Tie as tie
@@ -85,39 +85,50 @@ element-copy-out-guard c =
 cast-clock : tie.Need-cast-clock Inv-loop μ-loop
 cast-clock c = search needs
 
+cast-second : tie.Need-cast-second Inv-loop μ-loop
+cast-second c = search needs
+
+add-end-of : tie.Need-add-end-of Inv-loop μ-loop
+add-end-of c =
+    let e = c .before .before .before .before .before in
+    record { fits = omega (arith, inside-moment (start e .pre .0) (within e)) }
+
+slice-aggregate-end-of : tie.Need-slice-aggregate-end-of Inv-loop μ-loop
+slice-aggregate-end-of c = sym (within (c .before .before .before .before .before .before) .resets)
+
+end-of-requires : tie.Need-end-of-requires Inv-loop μ-loop
+end-of-requires c κs =
+    let e = c .before .before .before .before .before .before in
+    rw (within e .resets) (guard-second (start e .pre .0) (within e) _ (c .before .before .before .before .if2 .taken))
+
 array-read-put-guard : tie.Need-array-read-put-guard Inv-loop μ-loop
 array-read-put-guard c =
-    let e = c .before .before .before .before .before in
-    guard-clock (start e .pre .0) (within e) _ (c .before .before .before .if2 .taken)
+    let e = c .before .before .before .before .before .before .before .before in
+    guard-clock (start e .pre .0) (within e) _ (c .before .before .before .before .before .before .if2 .taken)
 
 mul-put-guard : tie.Need-mul-put-guard Inv-loop μ-loop
 mul-put-guard c = record { fits = omega (arith, array-read-put-guard c) }
 
-add-put-guard : tie.Need-add-put-guard Inv-loop μ-loop
-add-put-guard c =
-    let e = c .before .before .before .before .before in
-    record { fits = omega (arith, inside-moment (start e .pre .0) (within e)) }
-
 put-guard-requires : tie.Need-put-guard-requires Inv-loop μ-loop
 put-guard-requires c κs =
-    let e = c .before .before .before .before .before in
-    guard-fits (start e .pre .0) (within e) _ (c .before .before .before .if2 .taken)
+    let e = c .before .before .before .before .before .before .before .before in
+    guard-fits (start e .pre .0) (within e) _ (c .before .before .before .before .before .before .if2 .taken) _ (c .before .end-of .ensures)
 
 add-g : tie.Need-add-g Inv-loop μ-loop
 add-g c =
-    let e = c .before .before .before .before .before .before .before in
-    record { fits = omega (arith, inside-guard (start e .pre .0) (within e) (c .before .before .before .before .before .if2 .taken)) }
+    let e = c .before .before .before .before .before .before .before .before .before .before in
+    record { fits = omega (arith, inside-guard (start e .pre .0) (within e) (c .before .before .before .before .before .before .before .before .if2 .taken)) }
 
 loop-less-2 : tie.Need-loop-less-2 Inv-loop μ-loop
 loop-less-2 c =
-    let e = c .before .before .before .before .before .before .before in
-    omega (arith, inside-guard (start e .pre .0) (within e) (c .before .before .before .before .before .if2 .taken))
+    let e = c .before .before .before .before .before .before .before .before .before .before in
+    omega (arith, inside-guard (start e .pre .0) (within e) (c .before .before .before .before .before .before .before .before .if2 .taken))
 
 loop-again-2 : tie.Need-loop-again-2 Inv-loop μ-loop
 loop-again-2 c =
-    let e = c .before .before .before .before .before .before .before in
+    let e = c .before .before .before .before .before .before .before .before .before .before in
     going-inside (e .if1 .left)
-    (passed-guard (start e .pre .0) (within e) _ (c .before .before .before .before .before .if2 .taken)
+    (passed-guard (start e .pre .0) (within e) _ (c .before .before .before .before .before .before .before .before .if2 .taken) _ (c .before .before .before .end-of .ensures)
     (c .before .put-guard .ensures))
 
 add-reset-clocks : tie.Need-add-reset-clocks Inv-loop μ-loop
@@ -217,9 +228,12 @@ write-spec =
     mul-guard
     element-copy-out-guard
     cast-clock
+    cast-second
+    add-end-of
+    slice-aggregate-end-of
+    end-of-requires
     mul-put-guard
     array-read-put-guard
-    add-put-guard
     put-guard-requires
     add-g
     loop-less-2
