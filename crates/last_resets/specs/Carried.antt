@@ -247,3 +247,11 @@ module _ (t : Table) (good : Good t) where
       h
       ∙ ap (λ l. carried (t .resets) 0 7 l w) (g ∙ ap (λ l. carried (t .resets) w 0 l 7) f)
       ∙ second-is
+
+-- and so from the resets and the steps of a table
+pub table-rounds : (t : Table) (good : Good t) (flags : List Bool) (steps : ℕ) → t .resets ≡ flags → t .steps ≡ steps
+    → (row : List ℕ) → row ≡ zeros → (a b c : List ℕ)
+    → a ≡ carried flags 0 7 row (7 * steps - 7) → b ≡ carried flags (7 * steps - 7) 0 a 7 → c ≡ carried flags 0 7 b (7 * steps - 7)
+    → c ≡ distancesOf t
+table-rounds t good flags steps e f row z a b c x y w =
+    two-rounds t good a b c (x ∙ rw (z, ← e, ← f) refl) (y ∙ rw (← e, ← f) refl) (w ∙ rw (← e, ← f) refl)

@@ -1,10 +1,10 @@
 // The last resets of the clocks at each step of the rounds, from their distances: how many steps ago in rounds without end.
 use constraints::following;
-use table::Table;
 ghost use mathlib.Core.Path.{_≡_};
 ghost use Prim.Native.Nat.{_+_, _%_, _≤_, _<_};
-ghost use lib.ListN.{length};
+ghost use lib.ListN.{length, replicate};
 ghost use Rattle.table.specs.Step.{Good};
+ghost use Rattle.table.specs.declared.Table.{Table};
 ghost use Rattle.last_resets.specs.Since.{oneMore};
 ghost use Rattle.last_resets.specs.Distance.{lastOf, distancesOf};
 ghost use Rattle.last_resets.specs.Carried.{carried, Small};
@@ -33,17 +33,17 @@ fn carry(flags: &[bool; 119], from: usize, to: usize, count: usize, row: &mut [u
     }
 }
 
-// The distances of all steps and clocks, that of step s and clock j at place 7 * s + j: carried on over two rounds.
-pub fn distances(t: Table) -> [usize; 112]
-    requires { ⌜ Good t ⌝ }
-    ensures { λ r. ⌜ r ≡ distancesOf t ⌝ }
+// Puts the distances of all steps and clocks, that of step s and clock j at place 7 * s + j, into a row of zeros: carried on over two
+// rounds. The table is told by its resets and how many steps it has.
+pub fn put_distances(resets: &[bool; 119], steps: usize, row: &mut [usize; 112])
+    requires { ⌜ (length (now resets) ≡ 119) × (0 < steps) × (steps ≤ 16) × (now row ≡ replicate 112 0) ⌝ }
+    ensures { λ _. ⌜ ((t : Table) → Good t → t .resets ≡ now (resets .entry) → t .steps ≡ steps
+        → now (row .exit) ≡ distancesOf t) ⌝ }
 {
-    let mut row: [usize; 112] = [0; 112];
-    let last = 7 * t.steps - 7;
-    carry(&t.resets, 0, 7, last, &mut row);
-    carry(&t.resets, last, 0, 7, &mut row);
-    carry(&t.resets, 0, 7, last, &mut row);
-    row
+    let last = 7 * steps - 7;
+    carry(resets, 0, 7, last, row);
+    carry(resets, last, 0, 7, row);
+    carry(resets, 0, 7, last, row);
 }
 
 // The moment of the last reset of clock j when i of `total` steps are past, from its distance.

@@ -8,7 +8,7 @@ ghost use mathlib.Core.Path.{_≡_};
 ghost use mathlib.Core.Bool.{cond};
 ghost use Prim.Native.Nat.{_≤_, _<_};
 ghost use lib.Dec.{ltb};
-ghost use lib.ListN.{length, getD};
+ghost use lib.ListN.{length, getD, replicate};
 ghost use Rattle.table.specs.Step.{Good};
 ghost use Rattle.scaling.specs.Scaled.{most};
 ghost use Rattle.scaling.specs.Constants.{withConstant, tableWith};
@@ -80,12 +80,11 @@ pub fn guard_at(code: u64) -> Guard
     }
 }
 
-// The row of a table that has leads. Step s is next, with the guard at place i, and `count` leads stand in the row.
-fn fill(t: Table, constants: &[u64; 64]) -> [u64; 82]
-    requires { ⌜ Good t × Numbers t (now constants) ⌝ }
-    ensures { λ r. ⌜ r ≡ leadsOf (tableWith (now (constants .entry)) t) ⌝ }
+// Fills the row of a table that has leads. Step s is next, with the guard at place i, and `count` leads stand in the row.
+fn fill(t: Table, constants: &[u64; 64], row: &mut [u64; 82])
+    requires { ⌜ Good t × Numbers t (now constants) × (now row ≡ replicate 82 0) ⌝ }
+    ensures { λ _. ⌜ now (row .exit) ≡ leadsOf (tableWith (now (constants .entry)) t) ⌝ }
 {
-    let mut row: [u64; 82] = [0; 82];
     let mut count: usize = 0;
     let mut s: usize = 0;
     let mut i = t.ends[0];
@@ -104,25 +103,24 @@ fn fill(t: Table, constants: &[u64; 64]) -> [u64; 82]
         row[18 + count] = code_of(g, constant);
         count += 1;
     }
-    row
 }
 
-// The row: where the leads of each step begin and end, then the number of each lead with the constant of another row, in table order.
-// Without a lead every place is 0.
-pub fn leads(t: Table, constants: &[u64; 64]) -> [u64; 82]
-    requires { ⌜ Good t × Numbers t (now constants) ⌝ }
-    ensures { λ r. ⌜ r ≡ leadsOf (tableWith (now (constants .entry)) t) ⌝ }
+// Fills a row of zeros: where the leads of each step begin and end, then the number of each lead with the constant of another row, in
+// table order. Without a lead it stays as it is.
+pub fn put_leads(t: Table, constants: &[u64; 64], row: &mut [u64; 82])
+    requires { ⌜ Good t × Numbers t (now constants) × (now row ≡ replicate 82 0) ⌝ }
+    ensures { λ _. ⌜ now (row .exit) ≡ leadsOf (tableWith (now (constants .entry)) t) ⌝ }
 {
     let end = t.ends[t.steps];
     let mut i = t.ends[0];
     while i < end {
         let g = t.guards[i];
         if g.second != 0 {
-            return fill(t, constants);
+            fill(t, constants, row);
+            return;
         }
         i += 1;
     }
-    [0; 82]
 }
 
 // Whether a row has a lead, when rounds have so many steps.

@@ -2,11 +2,11 @@
 use asking::Admission;
 use asking::admit;
 use decode::parse;
-use last_resets::distances;
-use leads::leads;
+use last_resets::put_distances;
+use leads::put_leads;
 use runs::Start;
-use scaling::scaled;
-use sides::keys;
+use scaling::put_scaled;
+use sides::put_keys;
 use solving::Solution;
 use spaces::solve_here;
 use table::Read;
@@ -53,11 +53,16 @@ fn plan_rounds(
 {
     let total = k * t.steps;
     let parts = (total + t.clocks + 1) as u64;
-    let constants = scaled(t, parts);
-    let low = keys(t, &constants, false);
-    let up = keys(t, &constants, true);
-    let led = leads(t, &constants);
-    let far = distances(t);
+    let mut constants: [u64; 64] = [0; 64];
+    put_scaled(t, parts, &mut constants);
+    let mut low: [u64; 112] = [sides::NONE; 112];
+    put_keys(t, &constants, false, &mut low);
+    let mut up: [u64; 112] = [sides::NONE; 112];
+    put_keys(t, &constants, true, &mut up);
+    let mut led: [u64; 82] = [0; 82];
+    put_leads(t, &constants, &mut led);
+    let mut far: [usize; 112] = [0; 112];
+    put_distances(&t.resets, t.steps, &mut far);
     let found = solve_here(
         &low,
         &up,

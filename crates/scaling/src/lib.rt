@@ -2,6 +2,7 @@
 use table::Table;
 ghost use mathlib.Core.Path.{_≡_};
 ghost use Prim.Native.Nat.{_*_, _≤_};
+ghost use lib.ListN.{replicate};
 ghost use Rattle.table.specs.Step.{Good};
 ghost use Rattle.scaling.specs.Scaled.{scaledOf};
 
@@ -16,12 +17,11 @@ fn times(constant: u16, parts: u64) -> u64
     constant as u64 * parts
 }
 
-// For each guard, in table order, its constant times the parts to a tick.
-pub fn scaled(t: Table, parts: u64) -> [u64; 64]
-    requires { ⌜ Good t × (parts ≤ 1031) ⌝ }
-    ensures { λ r. ⌜ r ≡ scaledOf parts t ⌝ }
+// Puts for each guard, in table order, its constant times the parts to a tick into a row of zeros.
+pub fn put_scaled(t: Table, parts: u64, row: &mut [u64; 64])
+    requires { ⌜ Good t × (parts ≤ 1031) × (now row ≡ replicate 64 0) ⌝ }
+    ensures { λ _. ⌜ now (row .exit) ≡ scaledOf parts t ⌝ }
 {
-    let mut row: [u64; 64] = [0; 64];
     let end = t.ends[t.steps];
     let mut i: usize = 0;
     while i < end {
@@ -29,5 +29,4 @@ pub fn scaled(t: Table, parts: u64) -> [u64; 64]
         row[i] = times(g.constant, parts);
         i += 1;
     }
-    row
 }

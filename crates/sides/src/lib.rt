@@ -6,6 +6,7 @@ use table::Table;
 ghost use mathlib.Core.Path.{_≡_};
 ghost use mathlib.Core.Bool.{true, false, cond};
 ghost use lib.Dec.{eqb};
+ghost use lib.ListN.{replicate};
 ghost use Prim.Native.Nat.{_≤_, _-_, min};
 ghost use Rattle.table.specs.Step.{Good};
 ghost use Rattle.scaling.specs.Scaled.{most};
@@ -79,13 +80,12 @@ fn smaller(a: u64, b: u64) -> u64
     if a < b { a } else { b }
 }
 
-// The keys of all steps and clocks on a side, where the guards have the constants of a row, in table order. Step s is next, with the
-// guard at place i.
-pub fn keys(t: Table, constants: &[u64; 64], upper: bool) -> [u64; 112]
-    requires { ⌜ Good t × Numbers t (now constants) ⌝ }
-    ensures { λ r. ⌜ r ≡ keysOf upper (tableWith (now (constants .entry)) t) ⌝ }
+// Puts the keys of all steps and clocks on a side, where the guards have the constants of a row, into a row without keys. Step s is
+// next, with the guard at place i, in table order.
+pub fn put_keys(t: Table, constants: &[u64; 64], upper: bool, row: &mut [u64; 112])
+    requires { ⌜ Good t × Numbers t (now constants) × (now row ≡ replicate 112 none) ⌝ }
+    ensures { λ _. ⌜ now (row .exit) ≡ keysOf upper (tableWith (now (constants .entry)) t) ⌝ }
 {
-    let mut row: [u64; 112] = [NONE; 112];
     let mut s: usize = 0;
     let mut i = t.ends[0];
     while s < t.steps {
@@ -98,5 +98,4 @@ pub fn keys(t: Table, constants: &[u64; 64], upper: bool) -> [u64; 112]
         }
         s += 1;
     }
-    row
 }

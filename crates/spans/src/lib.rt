@@ -1,12 +1,12 @@
 // When each step of k rounds may happen, counted in parts from log-in: its first moment, and its last one or that it has none.
-use last_resets::distances;
-use leads::leads;
+use last_resets::put_distances;
+use leads::put_leads;
 use led_latest::settle_all;
 use lowering::NONE;
 use paths::fill;
 use runs::Start;
-use scaling::scaled;
-use sides::keys;
+use scaling::put_scaled;
+use sides::put_keys;
 use solving::Solution;
 use spaces::solve_here;
 use table::Table;
@@ -48,11 +48,16 @@ pub fn exact(t: Table, k: usize, firsts: &mut [u64], starts: &mut [u64], lasts: 
     ensures { λ r. ⌜ Exact t k (now (firsts .exit)) (now (lasts .exit)) r ⌝ }
 {
     let total = k * t.steps;
-    let constants = scaled(t, (total + t.clocks + 1) as u64);
-    let low = keys(t, &constants, false);
-    let up = keys(t, &constants, true);
-    let led = leads(t, &constants);
-    let far = distances(t);
+    let mut constants: [u64; 64] = [0; 64];
+    put_scaled(t, (total + t.clocks + 1) as u64, &mut constants);
+    let mut low: [u64; 112] = [sides::NONE; 112];
+    put_keys(t, &constants, false, &mut low);
+    let mut up: [u64; 112] = [sides::NONE; 112];
+    put_keys(t, &constants, true, &mut up);
+    let mut led: [u64; 82] = [0; 82];
+    put_leads(t, &constants, &mut led);
+    let mut far: [usize; 112] = [0; 112];
+    put_distances(&t.resets, t.steps, &mut far);
     let found = solve_here(
         &low,
         &up,

@@ -1,4 +1,5 @@
 -- `leads::fill` meets its contract: the steps up to step s are counted, and the leads before guard i have their numbers.
+use mathlib.Core.Path.{subst, sym}
 use Prim.Native.Nat.{_+_, _-_, _<_}
 use lib.ListN.{getD}
 use Rattle.scaling.specs.Constants.{tableWith}
@@ -9,16 +10,19 @@ use Rattle.leads.proofs.fill.Statement.{statement}
 use Rattle.leads.proofs.fill.Tie as tie
 
 abbrev Inv-loop : tie.InvT-loop
-Inv-loop constants t row₀ count₀ s₀ i₀ row count s i = Filling (tableWith constants t) row s i count
+Inv-loop constants row₀ t count₀ s₀ i₀ row count s i = Filling (tableWith constants t) row s i count
 
 abbrev μ-loop : tie.MeasureT-loop
-μ-loop constants t row₀ count₀ s₀ i₀ row count s i = 82 - (s + i)
+μ-loop constants row₀ t count₀ s₀ i₀ row count s i = 82 - (s + i)
 
 element-copy-out-i : tie.Need-element-copy-out-i Inv-loop μ-loop
 element-copy-out-i c = search needs
 
 loop-holds : tie.Need-loop-holds Inv-loop μ-loop
-loop-holds c = let s = c .before in filling-first (s .args .t1) (s .pre .0) (s .args .constants .now)
+loop-holds c =
+    let s = c .before in
+    subst (λ row. Filling (tableWith (s .args .constants .now) (s .args .t1)) row 0 (getD (s .args .t1 .ends) 0 0) 0) (sym (s .pre .2))
+    (filling-first (s .args .t1) (s .pre .0) (s .args .constants .now))
 
 add-if1 : tie.Need-add-if1 Inv-loop μ-loop
 add-if1 c = search needs
@@ -35,8 +39,8 @@ add-s c = search needs
 mul-row : tie.Need-mul-row Inv-loop μ-loop
 mul-row c = search needs
 
-array-write-row : tie.Need-array-write-row Inv-loop μ-loop
-array-write-row c = search needs
+element-write-row : tie.Need-element-write-row Inv-loop μ-loop
+element-write-row c = search needs
 
 loop-less : tie.Need-loop-less Inv-loop μ-loop
 loop-less c =
@@ -111,8 +115,10 @@ add-row c = omega (arith, few (c .before .before .before .before .before))
 mul-row-2 : tie.Need-mul-row-2 Inv-loop μ-loop
 mul-row-2 c = omega (arith, few (c .before .before .before .before .before))
 
-array-write-row-2 : tie.Need-array-write-row-2 Inv-loop μ-loop
-array-write-row-2 c = omega (arith, few (c .before .before .before .before .before))
+element-write-row-2 : tie.Need-element-write-row-2 Inv-loop μ-loop
+element-write-row-2 c =
+    let p = c .before .before .before .before .before in
+    omega (arith, few p, head p .loop .inv .size)
 
 add-count : tie.Need-add-count Inv-loop μ-loop
 add-count c = omega (arith, few (c .before .before .before .before .before))
@@ -149,7 +155,7 @@ fill-spec =
     element-copy-out-if1
     add-s
     mul-row
-    array-write-row
+    element-write-row
     loop-less
     loop-again
     mul-g
@@ -162,7 +168,7 @@ fill-spec =
     code-of-requires
     add-row
     mul-row-2
-    array-write-row-2
+    element-write-row-2
     add-count
     loop-less-3
     loop-again-3

@@ -1,5 +1,12 @@
 -- The rows are those of the table, and what solving them finds is the answer.
-use mathlib.Core.Path.{refl}
+use mathlib.Core.Path.{_≡_, refl, sym, ap, _∙_}
+use mathlib.Core.List.{List}
+use Prim.Native.Nat.{ℕ}
+use lib.ListN.{length}
+use Rattle.constraints.specs.Sized.{sized-parts}
+use Rattle.sides.specs.Keys.{Numbers, keys-size}
+use Rattle.leads.specs.Leads.{leads-size}
+use Rattle.last_resets.specs.Distance.{distances-size}
 use Rattle.plan.specs.Rows.{scaled-numbers, Computed, rows-computed}
 use Rattle.plan.specs.Found.{rows-ready, rows-answered}
 use borrow.Author.Needs.{needs}
@@ -16,45 +23,74 @@ add-parts c = search needs
 add-parts-2 : tie.Need-add-parts-2
 add-parts-2 c = search needs
 
-scaled-requires : tie.Need-scaled-requires
-scaled-requires c κs = search needs
+put-scaled-requires : tie.Need-put-scaled-requires
+put-scaled-requires c κs = let s = c .before .before .before .before in (s .pre .0 .good, sized-parts _ _ (s .pre .0), refl)
 
-keys-requires : tie.Need-keys-requires
-keys-requires c κs =
-    let s = c .before .before .before .before .before .before .before in (s .pre .0 .good, scaled-numbers _ _ (s .pre .0) _ refl _ (c .before .scaled .ensures))
+-- the constants have their numbers
+numbers : (h : tie.After-put-scaled) → Numbers (h .before .before .before .before .before .args .t1) (h .put-scaled .last .1 .1 .0)
+numbers h = scaled-numbers _ _ (h .before .before .before .before .before .pre .0) _ refl _ (h .put-scaled .ensures)
 
-keys-requires-2 : tie.Need-keys-requires-2
-keys-requires-2 c κs =
-    let s = c .before .before .before .before .before .before .before .before .before in (s .pre .0 .good, scaled-numbers _ _ (s .pre .0) _ refl _ (c .before .before .before .scaled .ensures))
+put-keys-requires : tie.Need-put-keys-requires
+put-keys-requires c κs = let h = c .before .before in (h .before .before .before .before .before .pre .0 .good, numbers h, refl)
 
-leads-requires : tie.Need-leads-requires
-leads-requires c κs =
-    let s = c .before .before .before .before .before .before .before .before .before .before .before in (s .pre .0 .good, scaled-numbers _ _ (s .pre .0) _ refl _ (c .before .before .before .before .before .scaled .ensures))
+put-keys-requires-2 : tie.Need-put-keys-requires-2
+put-keys-requires-2 c κs = let h = c .before .before .before .before .before in (h .before .before .before .before .before .pre .0 .good, numbers h, refl)
 
-distances-requires : tie.Need-distances-requires
-distances-requires c κs = search needs
+put-leads-requires : tie.Need-put-leads-requires
+put-leads-requires c κs = let h = c .before .before .before .before .before .before .before .before in (h .before .before .before .before .before .pre .0 .good, numbers h, refl)
 
-slice-aggregate-solve-here : tie.Need-slice-aggregate-solve-here
-slice-aggregate-solve-here c = search needs
-
-slice-aggregate-solve-here-2 : tie.Need-slice-aggregate-solve-here-2
-slice-aggregate-solve-here-2 c = search needs
-
-slice-aggregate-solve-here-3 : tie.Need-slice-aggregate-solve-here-3
-slice-aggregate-solve-here-3 c = search needs
-
-slice-aggregate-solve-here-4 : tie.Need-slice-aggregate-solve-here-4
-slice-aggregate-solve-here-4 c = search needs
+put-distances-requires : tie.Need-put-distances-requires
+put-distances-requires c κs =
+    let g = c .before .before .before .before .before .before .before .before .before .before .before .before .before .before .before .before .before .pre .0 .good in (g .resets-size, g .steps-some, g .steps-few, refl)
 
 -- the rows are those of the table
-abbrev entry : tie.After-distances → tie.Start
-entry d = d .before .before .before .before .before .before .before .before .before .before .before .before .before
+abbrev entry : tie.After-put-distances → tie.Start
+entry d = d .before .before .before .before .before .before .before .before .before .before .before .before .before .before .before .before .before .before
 
-rows : (d : tie.After-distances)
-    → Computed (entry d .args .t) (entry d .args .k) (d .before .before .before .before .before .keys .result) (d .before .before .before .keys2 .result) (d .before .leads .result) (d .distances .result)
+abbrev low-row : tie.After-put-distances → List ℕ
+low-row d = d .before .before .before .before .before .before .before .before .before .before .put-keys .last .1 .1 .1 .0
+
+abbrev up-row : tie.After-put-distances → List ℕ
+up-row d = d .before .before .before .before .before .before .before .put-keys2 .last .1 .1 .1 .0
+
+abbrev led-row : tie.After-put-distances → List ℕ
+led-row d = d .before .before .before .before .put-leads .last .1 .1 .0
+
+abbrev far-row : tie.After-put-distances → List ℕ
+far-row d = d .put-distances .last .1 .1 .0
+
+rows : (d : tie.After-put-distances)
+    → Computed (entry d .args .t1) (entry d .args .k) (low-row d) (up-row d) (led-row d) (far-row d)
 rows d =
-    rows-computed _ _ (entry d .pre .0) _ refl _ (d .before .before .before .before .before .before .before .scaled .ensures) _ _ _ _ (d .before .before .before .before .before .keys .ensures)
-    (d .before .before .before .keys2 .ensures) (d .before .leads .ensures) (d .distances .ensures)
+    rows-computed _ _ (entry d .pre .0) _ refl _ (d .before .before .before .before .before .before .before .before .before .before .before .before .before .put-scaled .ensures) _ _ _ _
+    (d .before .before .before .before .before .before .before .before .before .before .put-keys .ensures)
+    (d .before .before .before .before .before .before .before .put-keys2 .ensures)
+    (d .before .before .before .before .put-leads .ensures)
+    (d .put-distances .ensures _ (entry d .pre .0 .good) refl refl)
+
+low-size : (d : tie.After-put-distances) → 112 ≡ length (low-row d)
+low-size d = sym (ap length (rows d .below) ∙ keys-size _ _)
+
+up-size : (d : tie.After-put-distances) → 112 ≡ length (up-row d)
+up-size d = sym (ap length (rows d .above) ∙ keys-size _ _)
+
+led-size : (d : tie.After-put-distances) → 82 ≡ length (led-row d)
+led-size d = sym (ap length (rows d .led) ∙ leads-size _)
+
+far-size : (d : tie.After-put-distances) → 112 ≡ length (far-row d)
+far-size d = sym (ap length (rows d .distances) ∙ distances-size _)
+
+slice-aggregate-solve-here : tie.Need-slice-aggregate-solve-here
+slice-aggregate-solve-here c = low-size (c .before)
+
+slice-aggregate-solve-here-2 : tie.Need-slice-aggregate-solve-here-2
+slice-aggregate-solve-here-2 c = up-size (c .before .before)
+
+slice-aggregate-solve-here-3 : tie.Need-slice-aggregate-solve-here-3
+slice-aggregate-solve-here-3 c = led-size (c .before .before .before)
+
+slice-aggregate-solve-here-4 : tie.Need-slice-aggregate-solve-here-4
+slice-aggregate-solve-here-4 c = far-size (c .before .before .before .before)
 
 solve-here-requires : tie.Need-solve-here-requires
 solve-here-requires c κs =
@@ -89,11 +125,11 @@ plan-rounds-spec =
     mul-total
     add-parts
     add-parts-2
-    scaled-requires
-    keys-requires
-    keys-requires-2
-    leads-requires
-    distances-requires
+    put-scaled-requires
+    put-keys-requires
+    put-keys-requires-2
+    put-leads-requires
+    put-distances-requires
     slice-aggregate-solve-here
     slice-aggregate-solve-here-2
     slice-aggregate-solve-here-3

@@ -1,16 +1,17 @@
--- `scaling::scaled` meets its contract: the guards before place i are scaled.
+-- `scaling::put_scaled` meets its contract: the guards before place i are scaled.
+use mathlib.Core.Path.{subst, sym}
 use Prim.Native.Nat.{_-_}
 use Rattle.scaling.specs.Filling.{Scaling, scaling-first, scaling-more, scaling-last}
 use borrow.Author.Needs.{needs}
 use native.Mathlib.Omega.{arith}
-use Rattle.scaling.proofs.scaled.Statement.{statement}
-use Rattle.scaling.proofs.scaled.Tie as tie
+use Rattle.scaling.proofs.put_scaled.Statement.{statement}
+use Rattle.scaling.proofs.put_scaled.Tie as tie
 
 abbrev Inv-loop : tie.InvT-loop
-Inv-loop parts t row₀ end i₀ row i = Scaling parts t row i
+Inv-loop parts row₀ t end i₀ row i = Scaling parts t row i
 
 abbrev μ-loop : tie.MeasureT-loop
-μ-loop parts t row₀ end i₀ row i = end - i
+μ-loop parts row₀ t end i₀ row i = end - i
 
 mul-end : tie.Need-mul-end Inv-loop μ-loop
 mul-end c = search needs
@@ -19,7 +20,10 @@ element-copy-out-end : tie.Need-element-copy-out-end Inv-loop μ-loop
 element-copy-out-end c = search needs
 
 loop-holds : tie.Need-loop-holds Inv-loop μ-loop
-loop-holds c = let s = c .before in scaling-first (s .args .parts) (s .args .t1) (s .pre .0)
+loop-holds c =
+    let s = c .before in
+    subst (λ row. Scaling (s .args .parts) (s .args .t1) row 0) (sym (s .pre .2))
+    (scaling-first (s .args .parts) (s .args .t1) (s .pre .0))
 
 mul-g : tie.Need-mul-g Inv-loop μ-loop
 mul-g c = search needs
@@ -34,10 +38,10 @@ times-requires c κs = search needs
 mul-row : tie.Need-mul-row Inv-loop μ-loop
 mul-row c = search needs
 
-array-write-row : tie.Need-array-write-row Inv-loop μ-loop
-array-write-row c =
+element-write-row : tie.Need-element-write-row Inv-loop μ-loop
+element-write-row c =
     let s = c .before .before .before .before .before in
-    omega (arith, c .before .before .loop-test .taken, s .pre .0 .room (s .args .t1 .steps) (omega arith))
+    omega (arith, c .before .before .before .loop .inv .size, c .before .before .loop-test .taken, s .pre .0 .room (s .args .t1 .steps) (omega arith))
 
 add-i : tie.Need-add-i Inv-loop μ-loop
 add-i c = search needs
@@ -58,8 +62,8 @@ returns c =
     let s = h .before .before in
     scaling-last (s .args .parts) (s .args .t1) (s .pre .0) _ (h .loop .i) (h .loop .inv) (c .loop-test .left)
 
-pub scaled-spec : {M : Type 1} → statement M
-scaled-spec =
+pub put-scaled-spec : {M : Type 1} → statement M
+put-scaled-spec =
     tie.close
     (tie.spec
     Inv-loop
@@ -71,7 +75,7 @@ scaled-spec =
     element-copy-out-g
     times-requires
     mul-row
-    array-write-row
+    element-write-row
     add-i
     loop-less
     loop-again

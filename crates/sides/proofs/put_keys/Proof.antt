@@ -1,4 +1,5 @@
--- `sides::keys` meets its contract: steps before step s are done, and of step s the guards before place i.
+-- `sides::put_keys` meets its contract: steps before step s are done, and of step s the guards before place i.
+use mathlib.Core.Path.{subst, sym}
 use mathlib.Core.Bool.{false}
 use Prim.Native.Nat.{_+_, _-_, _<_}
 use lib.ListN.{getD}
@@ -9,20 +10,23 @@ use Rattle.scaling.specs.Constants.{tableWith}
 use Rattle.sides.specs.Filled.{Filled, filled-first, guard-room, guard-here, filled-guard, filled-step, filled-last}
 use borrow.Author.Needs.{needs}
 use native.Mathlib.Omega.{arith}
-use Rattle.sides.proofs.keys.Statement.{statement}
-use Rattle.sides.proofs.keys.Tie as tie
+use Rattle.sides.proofs.put_keys.Statement.{statement}
+use Rattle.sides.proofs.put_keys.Tie as tie
 
 abbrev Inv-loop : tie.InvT-loop
-Inv-loop constants upper t row₀ s₀ i₀ row s i = Filled upper (tableWith constants t) row s i
+Inv-loop constants upper row₀ t s₀ i₀ row s i = Filled upper (tableWith constants t) row s i
 
 abbrev μ-loop : tie.MeasureT-loop
-μ-loop constants upper t row₀ s₀ i₀ row s i = 80 - (s + i)
+μ-loop constants upper row₀ t s₀ i₀ row s i = 80 - (s + i)
 
 element-copy-out-i : tie.Need-element-copy-out-i Inv-loop μ-loop
 element-copy-out-i c = search needs
 
 loop-holds : tie.Need-loop-holds Inv-loop μ-loop
-loop-holds c = let s = c .before in filled-first (s .args .upper) (s .args .t1) (s .pre .0) (s .args .constants .now)
+loop-holds c =
+    let s = c .before in
+    subst (λ row. Filled (s .args .upper) (tableWith (s .args .constants .now) (s .args .t1)) row 0 (getD (s .args .t1 .ends) 0 0)) (sym (s .pre .2))
+    (filled-first (s .args .upper) (s .args .t1) (s .pre .0) (s .args .constants .now))
 
 add-if1 : tie.Need-add-if1 Inv-loop μ-loop
 add-if1 c = search needs
@@ -75,28 +79,30 @@ add-at c = omega (arith, fair (c .before .before) .last)
 mul-smaller : tie.Need-mul-smaller Inv-loop μ-loop
 mul-smaller c = omega (arith, fair (c .before .before) .last)
 
-array-read-smaller : tie.Need-array-read-smaller Inv-loop μ-loop
-array-read-smaller c = omega (arith, fair (c .before .before) .last)
+element-copy-out-smaller : tie.Need-element-copy-out-smaller Inv-loop μ-loop
+element-copy-out-smaller c = omega (arith, fair (c .before .before) .last, loop (c .before .before) .loop .inv .size)
 
 mul-solo-key : tie.Need-mul-solo-key Inv-loop μ-loop
 mul-solo-key c = search needs
 
 element-copy-out-solo-key : tie.Need-element-copy-out-solo-key Inv-loop μ-loop
-element-copy-out-solo-key c = omega (arith, room (c .before .before), start (c .before .before) .pre .1 .size)
+element-copy-out-solo-key c = omega (arith, room (c .before .before .before), start (c .before .before .before) .pre .1 .size)
 
 solo-key-requires : tie.Need-solo-key-requires Inv-loop μ-loop
 solo-key-requires c κs =
-    let p = c .before .before .before in
+    let p = c .before .before .before .before in
     start p .pre .1 .small (loop p .loop .s) (loop p .loop .i) (p .before .before .loop-test .taken) (loop p .loop .inv .first) (inside p)
 
 smaller-requires : tie.Need-smaller-requires Inv-loop μ-loop
 smaller-requires c κs = search needs
 
 mul-row : tie.Need-mul-row Inv-loop μ-loop
-mul-row c = omega (arith, fair (c .before .before .before .before .before) .last)
+mul-row c = omega (arith, fair (c .before .before .before .before .before .before) .last)
 
-array-write-row : tie.Need-array-write-row Inv-loop μ-loop
-array-write-row c = omega (arith, fair (c .before .before .before .before .before) .last)
+element-write-row : tie.Need-element-write-row Inv-loop μ-loop
+element-write-row c =
+    let p = c .before .before .before .before .before .before in
+    omega (arith, fair p .last, loop p .loop .inv .size)
 
 add-i : tie.Need-add-i Inv-loop μ-loop
 add-i c = search needs
@@ -106,7 +112,7 @@ loop-less c = search needs
 
 loop-again : tie.Need-loop-again Inv-loop μ-loop
 loop-again c =
-    let p = c .before .before .before .before .before in
+    let p = c .before .before .before .before .before .before in
     let h = p .before .before .before in
     let s = h .before .before in
     filled-guard (s .args .upper) (s .args .t1) (s .pre .0) (s .args .constants .now) _
@@ -133,8 +139,8 @@ returns c =
     filled-last (s .args .upper) (s .args .t1) (s .pre .0) (s .args .constants .now) _
     (h .loop .s) (h .loop .i) (h .loop .inv) (c .loop-test .left)
 
-pub keys-spec : {M : Type 1} → statement M
-keys-spec =
+pub put-keys-spec : {M : Type 1} → statement M
+put-keys-spec =
     tie.close
     (tie.spec
     Inv-loop
@@ -150,13 +156,13 @@ keys-spec =
     cast-at
     add-at
     mul-smaller
-    array-read-smaller
+    element-copy-out-smaller
     mul-solo-key
     element-copy-out-solo-key
     solo-key-requires
     smaller-requires
     mul-row
-    array-write-row
+    element-write-row
     add-i
     loop-less
     loop-again
