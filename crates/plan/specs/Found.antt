@@ -1,5 +1,6 @@
 -- What solving the rows of a table has found is the answer for k rounds of it.
 use mathlib.Core.Path.{_≡_, sym, ap, subst, _∙_}
+use mathlib.Core.Logic.{inl}
 use mathlib.Core.Bool.{true, false}
 use mathlib.Core.List.{List}
 use Prim.Native.Nat.{ℕ, zero, suc, _+_, _*_, _-_, _≤_, _<_}
@@ -130,7 +131,7 @@ module _ (t : Table) (v : Start) (k : ℕ) (z : Sized t k) where
           loop =
               covers-loop (rows-cover t v k z) (take m room′)
               (cycle-is-loop P es (take m room′)
-              (subst (λ cs. NegativeCycle cs (take m room′)) (rows-same t v k z) (c .cycle)) (omega (arith, length-take m room′, c .short)));
+              (subst (λ cs. NegativeCycle cs (take m room′)) (rows-same t v k z) (c .cycle)) (omega arith, inl (omega (arith, length-take m room′, c .short))));
           few = c .few;
           rest = record { size = c .size; rest = c .rest };
           times = c .times;

@@ -15,3 +15,4 @@ pub mod Decides
 pub mod Rows
 pub mod Found
 pub mod Admit
+pub mod WholeTicks

@@ -9,7 +9,7 @@ use Rattle.runs.specs.declared.Demand.{Demand}
 use Rattle.runs.specs.Loop.{Link, Loop}
 use Rattle.basics.specs.Choice.{choose as sel, choose-yes as sel-yes, choose-no as sel-no}
 use Rattle.runs.specs.Parts.{gain, loss}
-use Rattle.runs.specs.Cycle.{cycle-loop}
+use Rattle.runs.specs.Cycle.{Enough, cycle-loop}
 use Rattle.basics.specs.Numbers.{sum}
 use Rattle.paths.specs.Constraint.{Constraint, NegativeCycle, cycle-some}
 use Rattle.paths.specs.Places.{at}
@@ -75,8 +75,8 @@ module _ (P : ℕ) (ds : List Demand) (vs : List ℕ) (c : NegativeCycle (allInP
       next (yes m) = c .to k m ∙ sym (round-in (suc k) m)
       next (no m) = c .close k (omega arith) ∙ sym (round-out (suc k) m)
 
-  -- A negative cycle of at most P vertices is a loop.
-  pub cycle-is-loop : length vs ≤ P → Loop ds vs
+  -- A negative cycle for which P parts are enough is a loop.
+  pub cycle-is-loop : Enough P (length vs) ds → Loop ds vs
   cycle-is-loop few =
       cycle-loop P ds vs round used some few
       (λ k l. sym (round-in k l))

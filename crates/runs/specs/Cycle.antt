@@ -1,6 +1,7 @@
 -- A cycle of demands that is negative in parts is a loop.
 use mathlib.Core.Path.{_≡_, refl, ap, sym, _∙_}
-use mathlib.Core.Logic.{_≢_}
+use mathlib.Core.Logic.{_⊎_, ⊎-elim, _≢_}
+use mathlib.Core.Bool.{false}
 use mathlib.Core.List.{List, [], _∷_}
 use Prim.Native.Nat.{ℕ, zero, suc, _+_, _≤_, _<_}
 use native.Mathlib.Omega.{arith}
@@ -9,8 +10,8 @@ use Rattle.runs.specs.declared.Demand.{Demand}
 use Rattle.runs.specs.Loop.{Link, Tightest, Along, last, then, total, Loop}
 use Rattle.basics.specs.Numbers.{sum, sum-first}
 use Rattle.basics.specs.Distinct.{Distinct}
-use Rattle.runs.specs.Tools.{Every, every-cons}
-use Rattle.runs.specs.Parts.{gain, loss, parts-negative, tight-parts}
+use Rattle.runs.specs.Tools.{Every, every-nil, every-cons}
+use Rattle.runs.specs.Parts.{bit, gain, loss, stricts, stricts-few, parts-negative, tight-parts}
 use Rattle.runs.specs.Tighten.{tightest}
 
 -- ---- distinct moments, one after the other
@@ -54,9 +55,25 @@ tighten P ds p (then {a = a} {b = b} {e = e} l r) =
       less = omega (arith, tight-parts P (t .0) e p (t .1 .least e l), k .less);
     }
 
--- At least one and at most P distinct moments, with a demand from each to the next and from the last to the first, are a
+-- P parts to a tick are enough for cycles of N moments: as many as these have strict demands at most; or no demand is strict.
+abbrev pub Enough : ℕ → ℕ → List Demand → Type 0
+Enough P N ds = (0 < P) × ((N ≤ P) ⊎ Every (λ d. d .strict ≡ false) ds)
+
+stricts-none : (es : List Demand) → Every (λ d. d .strict ≡ false) es → stricts es ≡ 0
+stricts-none [] h = refl
+stricts-none (e ∷ es) h =
+    let k = every-cons (λ d. d .strict ≡ false) e es .0 h in
+    let b : bit (e .strict) ≡ 0 = rw (k .0) in
+    omega (arith, b, stricts-none es (k .1))
+
+along-among : (ds : List Demand) {ms : List ℕ} {z : ℕ} {es : List Demand} → Along (Tightest ds) ms z es
+    → (G : Demand → Type 0) → Every G ds → Every G es
+along-among ds (last t) G h = every-cons G _ [] .1 (h _ (t .link .among), every-nil G)
+along-among ds (then t r) G h = every-cons G _ _ .1 (h _ (t .link .among), along-among ds r G h)
+
+-- At least one moment, all distinct, for which P parts are enough, with a demand from each to the next and from the last to the first, are a
 -- loop if the sum of these demands is negative in P parts.
-pub along-loop : (P : ℕ) (ds : List Demand) (ms : List ℕ) (es : List Demand) → 1 ≤ length ms → length ms ≤ P
+pub along-loop : (P : ℕ) (ds : List Demand) (ms : List ℕ) (es : List Demand) → 1 ≤ length ms → Enough P (length ms) ds
     → Distinct ms → Along (Link ds) ms (getD ms 0 0) es → total (loss P) es < total (gain P) es → Loop ds ms
 along-loop P ds ms es some few distinct links less =
     record {
@@ -68,10 +85,12 @@ along-loop P ds ms es some few distinct links less =
     }
   where
     t : Tightened P ds ms (getD ms 0 0) es
-    t = tighten P ds (omega arith) links
+    t = tighten P ds (few .0) links
 
-    short : length (t .used) ≤ P
-    short = omega (arith, along-length (Tightest ds) (t .along))
+    short : stricts (t .used) ≤ P
+    short =
+        ⊎-elim (λ l. omega (arith, l, stricts-few (t .used), along-length (Tightest ds) (t .along)))
+        (λ h. omega (arith, stricts-none (t .used) (along-among ds (t .along) (λ d. d .strict ≡ false) h))) (few .1)
 
 -- ---- the same for a cycle given by functions
 row : ℕ → (ℕ → Demand) → List Demand
@@ -100,10 +119,10 @@ along-row ds (a ∷ b ∷ ms) w e p h l =
     (λ k b. h (suc k) (omega arith))
     (λ k b. l (suc k) (omega arith)))
 
--- The moments ms, at least one and at most P, are w 0, w 1, .. and distinct; after the last comes w 0 again; e k is a
+-- The moments ms, at least one, for which P parts are enough, are w 0, w 1, .. and distinct; after the last comes w 0 again; e k is a
 -- demand from w k to the next, and in P parts these demands gain more than they lose: then ms is a loop.
 pub cycle-loop : (P : ℕ) (ds : List Demand) (ms : List ℕ) (w : ℕ → ℕ) (e : ℕ → Demand)
-    → 1 ≤ length ms → length ms ≤ P
+    → 1 ≤ length ms → Enough P (length ms) ds
     → ((k : ℕ) → k < length ms → getD ms k 0 ≡ w k)
     → ((i j : ℕ) → i < j → j < length ms → w i ≢ w j)
     → w (length ms) ≡ w 0

@@ -31,3 +31,5 @@ pub mod Twin
 pub mod Start
 -- at least two moments in a loop, where every guard is of one clock
 pub mod TwoMoments
+-- whole ticks
+pub mod Whole

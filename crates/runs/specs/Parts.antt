@@ -41,7 +41,7 @@ holds-parts P x d = (
 
 -- ---- sums
 -- the number of strict demands
-abbrev stricts : List Demand → ℕ
+abbrev pub stricts : List Demand → ℕ
 stricts es = total (λ e. bit (e .strict)) es
 
 total-scale : (P : ℕ) (f : Demand → ℕ) (es : List Demand) → total (λ e. f e * P) es ≡ total f es * P
@@ -83,7 +83,7 @@ pub bit-small : (b : Bool) → bit b ≤ 1
 bit-small true = omega arith
 bit-small false = omega arith
 
-stricts-few : (es : List Demand) → stricts es ≤ length es
+pub stricts-few : (es : List Demand) → stricts es ≤ length es
 stricts-few [] = omega arith
 stricts-few (e ∷ es) = omega (arith, stricts-few es, bit-small (e .strict))
 
@@ -93,8 +93,8 @@ negative-parts P es p (inl h) = omega (arith, gains P es, losses P es, mul-le-mu
 negative-parts P es p (inr h) =
     omega (arith, gains P es, losses P es, ap (λ n. n * P) (h .0), strict-some (h .1 .1) (h .1 .2))
 
--- A negative sum of at most P demands in P parts is negative in ticks.
-pub parts-negative : (P : ℕ) (es : List Demand) → length es ≤ P → total (loss P) es < total (gain P) es → Negative es
+-- A negative sum with at most P strict demands in P parts is negative in ticks.
+pub parts-negative : (P : ℕ) (es : List Demand) → stricts es ≤ P → total (loss P) es < total (gain P) es → Negative es
 parts-negative P es l h = less (decLt up down)
   where
     up : ℕ
@@ -108,7 +108,7 @@ parts-negative P es l h = less (decLt up down)
 
     same : ¬ (up < down) → Dec (up ≡ down) → Negative es
     same n (yes e) = inr (e, some-strict es (omega (arith, sums, ap (λ n. n * P) e)))
-    same n (no e) = absurd (omega (arith, sums, stricts-few es, mul-le-mul-right P over))
+    same n (no e) = absurd (omega (arith, sums, l, mul-le-mul-right P over))
       where
         over : down < up
         over = omega arith

@@ -13,7 +13,7 @@ use Rattle.runs.specs.Demand.{Starts, demands, Exists, Clocks, Places}
 use Rattle.runs.specs.Loop.{total}
 use Rattle.runs.specs.Tools.{every-cons}
 use Rattle.runs.specs.Satisfies.{Satisfies}
-use Rattle.runs.specs.Parts.{gain, loss, holds-parts, parts-negative, negative-parts}
+use Rattle.runs.specs.Parts.{gain, loss, holds-parts, stricts-few, parts-negative, negative-parts}
 use Rattle.runs.specs.Refutes.{exists-satisfies}
 use Rattle.records.specs.Rules.{agree}
 use Rattle.samples.specs.Checks.{both, three, all, all-every, some, some-member}
@@ -92,5 +92,5 @@ contradicts-run n D σ es f g e r =
     let (members, cycle, negative) = contradicts-says ds es e in
     let (x, holds) = exists-satisfies n σ D f g r in
     let every : Satisfies (r .parts) x es = λ d m. holds d (found ds d (all-every (λ e. some (alike e) ds) es members d m)) in
-    let below = negative-parts (r .parts) es (r .positive) (parts-negative (length es) es (omega arith) (ltb-true _ _ negative)) in
+    let below = negative-parts (r .parts) es (r .positive) (parts-negative (length es) es (omega (arith, stricts-few es)) (ltb-true _ _ negative)) in
     omega (arith, leads-sum (r .parts) x (start es) es (start es) every cycle, below)

@@ -12,7 +12,7 @@ use borrow.Author.Tests.{eqb-true, eqb-false, eq-eqb, ltb-true, leb-true, not-tr
 use Rattle.runs.specs.declared.Demand.{Demand}
 use Rattle.basics.specs.Distinct.{Distinct}
 use Rattle.runs.specs.Loop.{Link, AsTight, Tightest, Along, last, then, total, Loop}
-use Rattle.runs.specs.Parts.{gain, loss, parts-negative}
+use Rattle.runs.specs.Parts.{gain, loss, stricts-few, parts-negative}
 use Rattle.runs.specs.Cycle.{distinct-nil, distinct-cons}
 use Rattle.runs.specs.Demand.{ticksOf}
 use Rattle.samples.specs.Follows.{LoopIs}
@@ -161,7 +161,7 @@ loop-sound ds ms cs e =
         distinct = apart-distinct ms distinct;
         used = r .used;
         around = r .along;
-        negative = parts-negative (length ms) (r .used) (omega (arith, r .many)) (omega (arith, r .more));
+        negative = parts-negative (length ms) (r .used) (omega (arith, r .many, stricts-few (r .used))) (omega (arith, r .more));
       };
       bounded = r .bounded;
     }
