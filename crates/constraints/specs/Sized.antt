@@ -32,9 +32,13 @@ pub record Sized (t : Table) (k : ℕ) : Type 0 where
 abbrev pub roundsOf : Table → ℕ → List Step
 roundsOf t k = copies (stepsOf t) k
 
--- the number of moments, which is also the number of parts to a tick
+-- the number of moments
+abbrev pub momentsOf : Table → ℕ → ℕ
+momentsOf t k = k * t .steps + t .clocks + 1
+
+-- the parts to a tick of plans and panel (01: P): as many as there are moments, which is enough for every cycle
 abbrev pub partsOf : Table → ℕ → ℕ
-partsOf t k = k * t .steps + t .clocks + 1
+partsOf t k = momentsOf t k
 
 -- the demands of the steps, and those of the starts
 abbrev pub stepsPart : Table → ℕ → List Demand
@@ -49,8 +53,8 @@ parts-are t v k =
     ∙ ap (λ n. stepsPart t k ++ startDemands n (startsOf v) 1 (t .clocks)) (length-rounds t k)
 
 module _ (t : Table) (k : ℕ) (z : Sized t k) where
-  pub sized-parts : partsOf t k ≤ 1031
-  sized-parts = omega (arith, z .few, z .good .clocks-few)
+  pub sized-moments : momentsOf t k ≤ 1031
+  sized-moments = omega (arith, z .few, z .good .clocks-few)
 
   pub sized-proper : (v : Start) → Every (Proper (k * t .steps + t .clocks)) (demandsOf t v k)
   sized-proper v = all-proper t v k (z .good) (z .clocks)

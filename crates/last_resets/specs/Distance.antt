@@ -192,16 +192,16 @@ last-in-row t K i j some few l =
     last-of t K i j some
     ∙ ap (λ d. lastOf d K i j) (sym (distances-at t (i % t .steps) j few (mod-lt i some) l))
 
--- every number of it is small
-pub distances-few : (t : Table) (k : ℕ) → t .steps ≤ 16 → getD (distancesOf t) k 0 ≤ 32
+-- no number of it is above the steps of a round
+pub distances-round : (t : Table) (k : ℕ) → 0 < t .steps → getD (distancesOf t) k 0 ≤ t .steps
 unfolding distancesOf
-distances-few t k few = go (decLt k 112)
+distances-round t k some = go (decLt k 112)
   where
-    inner : Dec (k < 7 * t .steps) → distanceAt t k ≤ 32
-    inner (yes l) = omega (arith, distance-in t k l, since-few t (t .steps + k / 7) (k % 7))
+    inner : Dec (k < 7 * t .steps) → distanceAt t k ≤ t .steps
+    inner (yes l) = omega (arith, distance-in t k l, since-round t (k % 7) some (t .steps + k / 7))
     inner (no l) = omega (arith, distance-out t k (omega arith))
 
-    go : Dec (k < 112) → getD (tab (distanceAt t) 112) k 0 ≤ 32
+    go : Dec (k < 112) → getD (tab (distanceAt t) 112) k 0 ≤ t .steps
     go (yes l) = rw (getD-tab (distanceAt t) 112 k l) (inner (decLt k (7 * t .steps)))
     go (no l) =
         let o : length (tab (distanceAt t) 112) ≤ k = omega (arith, length-tab (distanceAt t) 112) in

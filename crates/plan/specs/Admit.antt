@@ -1,7 +1,7 @@
 -- The question to a table, and to the bytes.
 use mathlib.Core.Path.{_≡_, refl, sym, ap, subst, _∙_}
 use mathlib.Core.List.{List}
-use Prim.Native.Nat.{ℕ}
+use Prim.Native.Nat.{ℕ, _*_}
 use Rattle.table.specs.Step.{Step, stepsOf}
 use Rattle.table.specs.declared.Fault.the-variants as fault
 use Rattle.table.specs.declared.Refusal.{Refusal}
@@ -27,12 +27,11 @@ use Rattle.constraints.specs.Sized.{Tabled, Sized, roundsOf}
 use Rattle.asking.specs.Admitted.{admit-held}
 use Rattle.asking.specs.Rounds.{clocksOf, cycleOf, roundsIn}
 use Rattle.solving.specs.Solve.{Roomy}
-use Rattle.plan.specs.Rows.{rowsOf}
 
 -- ---- all tests have held
-pub admit-sized : (t : Table) (v : Start) (k : ℕ) (r : Rooms) → Tabled t → admitRooms (t .clocks) (t .steps) k r ≡ admission.Accepted
-    → Sized t k × Roomy (rowsOf t v k) (r .times) (r .starts) (r .loop)
-admit-sized t v k r g e =
+pub admit-sized : (t : Table) (k : ℕ) (r : Rooms) → Tabled t → admitRooms (t .clocks) (t .steps) k r ≡ admission.Accepted
+    → Sized t k × Roomy (k * t .steps) (t .clocks) (r .times) (r .starts) (r .loop)
+admit-sized t k r g e =
     let h = admit-held _ _ _ _ _ _ e in (
       record { good = g .good; clocks = g .clocks; some = h .some; few = h .few },
       record { times = h .times; starts = h .starts; loop = h .loop },

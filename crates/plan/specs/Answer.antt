@@ -16,7 +16,7 @@ use Rattle.asking.specs.declared.Admission.{Admission}
 use Rattle.asking.specs.declared.Admission.the-variants as admission
 use Rattle.asking.specs.Admission.{admitOf}
 use Rattle.asking.specs.Rounds.{clocksOf, roundsIn}
-use Rattle.plan.specs.Planned.{Planned}
+use Rattle.plan.specs.Planned.{partsIn, Planned}
 
 -- the contents of the three rooms lent
 pub record Rooms : Type 0 where
@@ -42,9 +42,9 @@ pub record KeptFrom (n : ℕ) (l l′ : List ℕ) : Type 0 where
   pub rest : drop n l′ ≡ drop n l
 
 -- ---- the two answers, for steps σ with clocks 1 to n, from starts that D allows
--- A run exists: P = K + n + 1, and the plan in P parts to a tick is in the first places of two rooms.
+-- A run exists: the plan in P parts to a tick is in the first places of two rooms.
 pub record Planning (n : ℕ) (σ : List Step) (D : Starts) (r r′ : Rooms) (P : ℕ) : Type 0 where
-  pub parts : P ≡ length σ + n + 1
+  pub parts : P ≡ partsIn n σ
   pub planned : Planned P n σ D (momentsIn (r′ .times)) (startsIn (r′ .starts))
   pub times : KeptFrom (length σ) (r .times) (r′ .times)
   pub starts : KeptFrom n (r .starts) (r′ .starts)

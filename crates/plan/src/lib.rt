@@ -13,11 +13,11 @@ use table::Read;
 use table::Refusal;
 use table::Table;
 ghost use mathlib.Core.Path.{_≡_};
+ghost use Prim.Native.Nat.{_*_};
 ghost use Rattle.runs.specs.Demand.{startsOf};
 ghost use Rattle.constraints.specs.Sized.{Sized, Tabled, roundsOf};
 ghost use Rattle.solving.specs.Solve.{Roomy};
 ghost use Rattle.plan.specs.Answer.{rooms, Answered, admitRooms, Meets, Answers};
-ghost use Rattle.plan.specs.Rows.{rowsOf};
 ghost use Rattle.plan.specs.Found.{outcomeOf};
 
 // The answer to the question "plan for k": the parts to a tick; or the length of a loop; or why it is refused.
@@ -46,7 +46,7 @@ fn plan_rounds(
     starts: &mut [u64],
     room: &mut [u64],
 ) -> Outcome
-    requires { ⌜ Sized t k × Roomy (rowsOf t start k) (now times) (now starts) (now room) ⌝ }
+    requires { ⌜ Sized t k × Roomy (k * t .steps) (t .clocks) (now times) (now starts) (now room) ⌝ }
     ensures { λ a. ⌜ Answered (t .clocks) (roundsOf t k) (startsOf start)
         (rooms (now (times .entry)) (now (starts .entry)) (now (room .entry)))
         (rooms (now (times .exit)) (now (starts .exit)) (now (room .exit))) a ⌝ }

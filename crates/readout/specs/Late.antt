@@ -2,29 +2,24 @@
 -- that end at one of them.
 use mathlib.Core.Path.{_≡_, refl, sym, subst, _∙_}
 use mathlib.Core.Bool.{Bool, true, false, false≢true}
-use mathlib.Core.List.{List, List·Memᴰ, Memᴰ·map, Memᴰ·of-map}
+use mathlib.Core.List.{List}
 use Prim.Native.Nat.{ℕ, _+_, _-_, _%_, _≤_, _<_}
 use native.Mathlib.Omega.{arith}
-use native.Mathlib.Decide.{decLe, decLt}
+use native.Mathlib.Decide.{decLe}
 use borrow.Author.Tests.{lt-ltb}
 use lib.Dec.{ltb}
 use lib.ListN.{length, getD, set, length-set}
 use lib.Seq.{getD-set-same, getD-set-other}
-use Rattle.runs.specs.declared.Demand.{Demand}
-use Rattle.sweeps.specs.Order.{forthAt, forthOf}
-use Rattle.sweeps.specs.Covered.{forth-among}
+use Rattle.sweeps.specs.Order.{forthAt}
 use Rattle.paths.specs.Places.{at, written}
-use Rattle.paths.specs.Constraint.{Constraint, Holds}
-use Rattle.checks.specs.InParts.{edge, edges}
+use Rattle.checks.specs.InParts.{edges}
 use Rattle.leads.specs.Leads.{ledBy, Leading}
 use Rattle.ways.specs.Forth.{Going}
-use Rattle.lowering.specs.Lowered.{none}
 use Rattle.lowering.specs.Bounded.{Bounded, bounded-some}
 use Rattle.lowering.specs.Outcome.{Settled, Falling, Greatest, falling-then, falling-among}
-use Rattle.latest.specs.Steps.{forthEdges, left-member, right-member}
+use Rattle.latest.specs.Steps.{forthEdges, forth-member, left-member, right-member}
 use Rattle.led_latest.specs.Steps.{ledBackEdges, ledEdges}
 use Rattle.latest.specs.Descent.{Descended}
-use Rattle.readout.specs.Reach.{Reach, reach-moment}
 
 -- b has the times of moments 0 to K of x, and that of the start for the last resets of clocks 1 to m before it.
 pub record Began (x : List ℕ) (K m : ℕ) (b : List ℕ) : Type 0 where
@@ -57,18 +52,19 @@ pub record Rowed (low up leads far : List ℕ) (L n K : ℕ) (x s : List ℕ) : 
   pub below : Going low far L n K
   pub above : Going up far L n K
   pub led : Leading leads L
+  pub round : L ≤ K
   pub whole : K % L ≡ 0
   pub times : K + n + 1 ≤ length x
   pub starts : n ≤ length s
   pub bounded : (b : List ℕ) → Began x K n b → Bounded (K + n + 1) (ledEdges low up (ledBy leads) far L n K) b
 
--- What is given: all demands from below hold that end at a last reset before the start; where there are guards between two clocks, which
--- alone of the others end at one, all others hold; and the starts that the times tell.
+-- What is given: the demands from below of the first round hold; where there are guards between two clocks, which alone of the others end
+-- at a last reset before the start, all others hold; and the starts that the times tell.
 pub record Told (low up leads far : List ℕ) (L n K : ℕ) (x x′ s s′ : List ℕ) : Type 0 where
   pub first : List ℕ
   pub began : Began x K n first
   pub falling : Falling (K + n + 1) (ledEdges low up (ledBy leads) far L n K) first x′
-  pub forth : (c : Constraint) → List·Memᴰ c (forthEdges low far L n K) → K < c .to → at x′ (c .from) < none → Holds c (at x′)
+  pub forth : (i : ℕ) → i < L → Settled (edges (forthAt low far L n K i)) x′
   pub back : 0 < getD leads L 0 → Settled (ledBackEdges up (ledBy leads) far L n K) x′
   pub starts : s′ ≡ written (λ j. at x′ 0 - at x′ (K + (j + 1))) n s
 
@@ -80,7 +76,7 @@ began-able low up leads far L n K x s r b g =
     (left-member (forthEdges low far L n K) (ledBackEdges up (ledBy leads) far L n K)) (r .bounded b g)
 
 module _ (low up leads far : List ℕ) (L n K : ℕ) (x s : List ℕ) (r : Rowed low up leads far L n K x s) (b : List ℕ) (g : Began x K n b)
-    (l : List ℕ) (from bottom : ℕ) (h : Reach low far L K from) (d : Descended low far L n K from 0 b l bottom) where
+    (l : List ℕ) (bottom : ℕ) (d : Descended low far L n K L 0 b l bottom) where
   abbrev N : ℕ
   N = K + n + 1
 
@@ -88,22 +84,6 @@ module _ (low up leads far : List ℕ) (L n K : ℕ) (x s : List ℕ) (r : Rowed
   fell =
       falling-among N (ledEdges low up (ledBy leads) far L n K) (forthEdges low far L n K) b l
       (left-member (forthEdges low far L n K) (ledBackEdges up (ledBy leads) far L n K)) (r .bounded b g) (d .falling)
-
-  -- what was looked at holds, and the others end at moments
-  below : (c : Constraint) → List·Memᴰ c (forthEdges low far L n K) → K < c .to → at l (c .from) < none → Holds c (at l)
-  unfolding forthEdges
-  below c m past = go (Memᴰ·of-map edge (forthOf low far L n K 0 K) m)
-    where
-      at-step : (i : ℕ) → i < K → List·Memᴰ c (edges (forthAt low far L n K i)) → Dec (i < from) → at l (c .from) < none → Holds c (at l)
-      at-step i w k (yes q) = d .each refl i q c k
-      at-step i w k (no q) = absurd (omega (arith, reach-moment low far L n K from h (r .below .some) (r .below .clocks) i (omega arith) w c k))
-
-      go : (e : Demand) × List·Memᴰ e (forthOf low far L n K 0 K) × (edge e ≡ c) → at l (c .from) < none → Holds c (at l)
-      go e =
-          let a = forth-among low far L n K 0 K (e .0) (e .1) in
-          at-step (a .step) (omega (arith, a .last))
-          (subst (λ (x : Constraint). List·Memᴰ x (edges (forthAt low far L n K (a .step)))) (e .2) (Memᴰ·map edge (a .member)))
-          (decLt (a .step) from)
 
   -- they can be lowered on
   pub lowered-able : Bounded N (ledEdges low up (ledBy leads) far L n K) l
@@ -117,7 +97,7 @@ module _ (low up leads far : List ℕ) (L n K : ℕ) (x s : List ℕ) (r : Rowed
         first = b;
         began = g;
         falling = fell;
-        forth = below;
+        forth = d .each refl;
         back = λ w. absurd (false≢true (sym f ∙ e ∙ lt-ltb 0 (getD leads L 0) w));
         starts = h;
       }
@@ -130,7 +110,10 @@ module _ (low up leads far : List ℕ) (L n K : ℕ) (x s : List ℕ) (r : Rowed
         first = b;
         began = g;
         falling = falling-then N (ledEdges low up (ledBy leads) far L n K) b l l′ fell (a .falling);
-        forth = λ c m past. a .settled c (left-member (forthEdges low far L n K) (ledBackEdges up (ledBy leads) far L n K) c m);
+        forth = λ i w c m.
+            a .settled c
+            (left-member (forthEdges low far L n K) (ledBackEdges up (ledBy leads) far L n K) c
+            (forth-member low far L n K i (omega (arith, r .round)) c m));
         back = λ w c m. a .settled c (right-member (forthEdges low far L n K) (ledBackEdges up (ledBy leads) far L n K) c m);
         starts = h;
       }

@@ -1,4 +1,2 @@
 -- where the greatest times of the last resets before the start are looked for from, and what is found
 pub mod Late
--- how many steps have to be looked at
-pub mod Reach

@@ -2,14 +2,11 @@
 use latest::descend;
 use leads::any_leads;
 use led_latest::lower_led;
-use lowering::smaller;
-use sides::NONE;
 ghost use mathlib.Core.Path.{_≡_};
 ghost use Prim.Native.Nat.{ℕ, _+_, _-_, _≤_, _<_};
 ghost use lib.ListN.{length};
 ghost use Rattle.paths.specs.Places.{at, written};
 ghost use Rattle.readout.specs.Late.{Began, Rowed, Told};
-ghost use Rattle.readout.specs.Reach.{Further, Reach};
 
 // a − b, or 0 where b is larger.
 fn over(a: u64, b: u64) -> u64
@@ -30,35 +27,6 @@ fn begin(total: usize, clocks: usize, time: &mut [u64])
     }
 }
 
-// As many steps as `most`, or as the last reset is steps ago of the clock that a guard from below with this key is on; or all, if it is
-// never reset.
-fn further(key: u64, distance: usize, total: usize, most: usize) -> usize
-    requires { ⌜ most ≤ total ⌝ }
-    ensures { λ r. ⌜ Further total key distance most r ⌝ }
-{
-    if NONE <= key {
-        return most;
-    }
-    if distance == 0 {
-        return total;
-    }
-    if most < distance { distance } else { most }
-}
-
-// From this step on every clock that a guard from below is on was reset since the start.
-fn reach(low: &[u64], far: &[usize], steps: usize, total: usize) -> usize
-    requires { ⌜ (length (now low) ≡ 112) × (length (now far) ≡ 112) × (steps ≤ 16) ⌝ }
-    ensures { λ r. ⌜ Reach (now (low .entry)) (now (far .entry)) steps total r ⌝ }
-{
-    let mut most: usize = 0;
-    let mut p: usize = 0;
-    while p < 7 * steps {
-        most = smaller(further(low[p], far[p], total, most), total);
-        p += 1;
-    }
-    most
-}
-
 // Writes the starts that the times of the last resets before the start tell to the first places.
 fn tell(late: &[u64], total: usize, clocks: usize, starts: &mut [u64])
     requires { ⌜ (total + clocks < length (now late)) × (clocks ≤ length (now starts)) ⌝ }
@@ -73,7 +41,8 @@ fn tell(late: &[u64], total: usize, clocks: usize, starts: &mut [u64])
 }
 
 // Writes the smallest starts for the moments of a solution to the first places. The times of the last resets before the start are set to
-// that of the start and lowered as far as the demands ask: by the guards from below, and with guards between two clocks until all hold.
+// that of the start and lowered as far as the demands ask: by the guards from below of the first round, after which no guard of one clock
+// asks for more, and with guards between two clocks until all hold.
 pub fn write_starts(
     low: &[u64],
     up: &[u64],
@@ -90,9 +59,7 @@ pub fn write_starts(
         (now (time .entry)) (now (time .exit)) (now (starts .entry)) (now (starts .exit)) ⌝ }
 {
     begin(total, clocks, time);
-    let from = reach(low, far, steps, total);
-    let first = from % steps;
-    let bottom = descend(low, far, steps, clocks, total, from, first, 0, time);
+    let bottom = descend(low, far, steps, clocks, total, steps, 0, 0, time);
     if !any_leads(leads, steps) {
         tell(time, total, clocks, starts);
         return;

@@ -87,7 +87,7 @@ steps-swept R d m =
     (λ k. Memᴰ·append-right (forthOf (R .low) (R .far) (R .steps) (R .clocks) (R .total) 0 (R .total)) (Memᴰ·append-left _ k))
     (List·Memᴰ·append-cases (forthOf (R .low) (R .far) (R .steps) (R .clocks) (R .total) 0 (R .total)) m))
 
-module _ (R : Rows) (s₀ : State) (z : Sound R) (b : Begins (moments R) (R .total) (R .clocks) s₀) where
+module _ (R : Rows) (s₀ : State) (z : Sound R) (b : Begins (R .total) (R .clocks) s₀) where
   abbrev N : ℕ
   N = moments R
 

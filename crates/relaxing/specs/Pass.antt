@@ -60,8 +60,8 @@ module _ (led : Bool) (up leads far : List ℕ) (L n K : ℕ) (t : Turning led u
   upper-checked h q s s′ g r = subst (λ ds. Checked ds h q s s′ g r) (sym (t .idle e))
 
 module _ (R : Rows) (q : ℕ) (s : State) (p : Passable R s q) where
-  abbrev P : ℕ
-  P = moments R
+  abbrev N : ℕ
+  N = moments R
 
   abbrev partners : List Demand
   partners = partnersFrom (R .total) (startsOf (R .start)) 1 (R .clocks)
@@ -82,7 +82,7 @@ module _ (R : Rows) (q : ℕ) (s : State) (p : Passable R s q) where
   able : Checkable (partners ++ (forth ++ (back ++ starts))) s q
   able =
       record {
-        moments = P;
+        moments = N;
         slight = p .sound .slight;
         room = p .room;
         top = 2 ^ 62;
@@ -162,10 +162,10 @@ module _ (R : Rows) (q : ℕ) (s : State) (p : Passable R s q) where
           loud e =
               hits-append F B q s ∙ ap (λ b. hitsOf F q s || b) (hit ∙ e) ∙ or-true (hitsOf F q s)
 
-          slight : Every (Slight P) (partners ++ forth)
+          slight : Every (Slight N) (partners ++ forth)
           slight =
-              every-append (Slight P) (partners ++ forth) (back ++ starts) .0
-              (subst (Every (Slight P)) (sym (append-assoc partners forth (back ++ starts))) (p .sound .slight)) .0
+              every-append (Slight N) (partners ++ forth) (back ++ starts) .0
+              (subst (Every (Slight N)) (sym (append-assoc partners forth (back ++ starts))) (p .sound .slight)) .0
 
           holds : h₃ ≡ false → All (F ++ B) (at (s₃ .time))
           unfolding F
@@ -174,7 +174,7 @@ module _ (R : Rows) (q : ℕ) (s : State) (p : Passable R s q) where
               let same : s₃ ≡ passOf F q s = after ∙ pass-append F B q s ∙ k .kept in
               rw same
               (⊎-elim
-              (onward-settles P F q s (slight-fits P (partners ++ forth) slight) (p .room)
+              (onward-settles N F q s (slight-fits N (partners ++ forth) slight) (p .room)
               (way-onward (R .low) (R .far) (R .steps) (R .clocks) (R .total) (startsOf (R .start)) (start-upper (R .start) (R .clocks)))
               c)
               (k .holds c)

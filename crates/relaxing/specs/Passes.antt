@@ -12,18 +12,18 @@ use Rattle.paths.specs.Cycle.{OnCycle}
 use Rattle.paths.specs.Code.{Wrote}
 use Rattle.relaxing.specs.Rows.{Rows, moments, Sound}
 
--- What the passes begin with: 24012 ticks for moments 0 to K, 0 for the last resets of the n clocks before the start, and no
--- vertex stamped.
-pub record Begins (P K n : ℕ) (s : State) : Type 0 where
+-- What the passes begin with: for moments 0 to K 24012 times the number of moments, which is 24012 ticks or more wherever a tick has at
+-- most so many parts; 0 for the last resets of the n clocks before the start; and no vertex stamped.
+pub record Begins (K n : ℕ) (s : State) : Type 0 where
   pub room : Room (K + n + 1) s
   pub unstamped : (v : ℕ) → v < K + n + 1 → at (s .stamp) v ≡ 0
-  pub now : (v : ℕ) → v ≤ K → at (s .time) v ≡ 24012 * P
+  pub now : (v : ℕ) → v ≤ K → at (s .time) v ≡ 24012 * (K + n + 1)
   pub past : (v : ℕ) → K < v → v < K + n + 1 → at (s .time) v ≡ 0
 
 -- What they ask: the start values, and a mark for each moment.
 pub record Ready (R : Rows) (s : State) (marks : List ℕ) : Type 0 where
   pub sound : Sound R
-  pub begins : Begins (moments R) (R .total) (R .clocks) s
+  pub begins : Begins (R .total) (R .clocks) s
   pub room : moments R ≤ length marks
 
 -- What they end with: no time is lowered, and none raised above a solution that is not below the start. r is a vertex on a cycle of

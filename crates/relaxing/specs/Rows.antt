@@ -36,7 +36,7 @@ rows low up leads far v L n K = record { low = low; up = up; leads = leads; far 
 abbrev pub sweep : Rows → List Demand
 sweep R = sweepOf (R .low) (R .up) (ledBy (R .leads)) (R .far) (startsOf (R .start)) (R .steps) (R .clocks) (R .total)
 
--- the number of moments, which is also the number of parts to a tick
+-- the number of moments
 abbrev pub moments : Rows → ℕ
 moments R = R .total + R .clocks + 1
 
@@ -44,7 +44,8 @@ moments R = R .total + R .clocks + 1
 unfoldable pub constraintsOf : Rows → List Constraint
 constraintsOf R = edges (sweep R)
 
--- What is asked of all: whole rounds, and demands between the moments with small bounds.
+-- What is asked of all: whole rounds, one at least, no clock that is ever reset left alone for longer than a round, and demands between
+-- the moments with small bounds.
 pub record Sound (R : Rows) : Type 0 where
   pub low : length (R .low) ≡ 112
   pub up : length (R .up) ≡ 112
@@ -54,7 +55,9 @@ pub record Sound (R : Rows) : Type 0 where
   pub steps : R .steps ≤ 16
   pub clocks : R .clocks ≤ 6
   pub few : R .total ≤ 1024
+  pub round : R .steps ≤ R .total
   pub whole : R .total % R .steps ≡ 0
+  pub near : (p : ℕ) → getD (R .far) p 0 ≤ R .steps
   pub slight : Every (Slight (moments R)) (sweep R)
 
 module _ (R : Rows) (z : Sound R) where

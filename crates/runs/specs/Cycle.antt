@@ -1,6 +1,6 @@
 -- A cycle of demands that is negative in parts is a loop.
 use mathlib.Core.Path.{_≡_, refl, ap, sym, _∙_}
-use mathlib.Core.Logic.{_⊎_, ⊎-elim, _≢_}
+use mathlib.Core.Logic.{_⊎_, ⊎-elim, _≢_, inl, inr}
 use mathlib.Core.Bool.{false}
 use mathlib.Core.List.{List, [], _∷_}
 use Prim.Native.Nat.{ℕ, zero, suc, _+_, _≤_, _<_}
@@ -58,6 +58,10 @@ tighten P ds p (then {a = a} {b = b} {e = e} l r) =
 -- P parts to a tick are enough for cycles of N moments: as many as these have strict demands at most; or no demand is strict.
 abbrev pub Enough : ℕ → ℕ → List Demand → Type 0
 Enough P N ds = (0 < P) × ((N ≤ P) ⊎ Every (λ d. d .strict ≡ false) ds)
+
+pub enough-fewer : (P N m : ℕ) (ds : List Demand) → m ≤ N → Enough P N ds → Enough P m ds
+enough-fewer P N m ds l (p, inl few) = (p, inl (omega arith))
+enough-fewer P N m ds l (p, inr weak) = (p, inr weak)
 
 stricts-none : (es : List Demand) → Every (λ d. d .strict ≡ false) es → stricts es ≡ 0
 stricts-none [] h = refl

@@ -15,8 +15,8 @@ use Rattle.runs.specs.declared.Demand.{Demand}
 use Rattle.runs.specs.Demand.{plus, startDemands, anyStarts, startsOf}
 use Rattle.runs.specs.Start.{start-upper}
 use Rattle.leads.specs.Leads.{ledBy}
-use Rattle.sweeps.specs.Order.{sideOf, leadsAt, forthOf, backOf, returnOf, partnersFrom}
-use Rattle.sweeps.specs.Covered.{back-among}
+use Rattle.sweeps.specs.Order.{sideOf, leadsAt, forthAt, forthOf, backOf, returnOf, partnersFrom}
+use Rattle.sweeps.specs.Covered.{among-forth, back-among}
 use Rattle.sweeps.specs.Ends.{ToStart, side-ends, partners-ends, start-listed}
 use Rattle.paths.specs.Places.{at}
 use Rattle.paths.specs.Constraint.{Constraint, Holds, All, Fits}
@@ -32,6 +32,7 @@ use Rattle.latest.specs.Steps.{forthEdges, edges-among}
 use Rattle.led_latest.specs.Steps.{ledBackEdges, ledEdges}
 use Rattle.readout.specs.Late.{Began}
 use Rattle.relaxing.specs.Rows.{Rows, sweep, moments, constraintsOf, Sound, sound-moments}
+use Rattle.solving.specs.FirstRound.{first-round}
 use Rattle.solving.specs.Solved.{Above, LeastSolution, Latest}
 
 -- the demand that a clock was not last reset after the start
@@ -59,8 +60,8 @@ module _ (R : Rows) (z : Sound R) where
   abbrev n : ℕ
   n = R .clocks
 
-  abbrev P : ℕ
-  P = moments R
+  abbrev N : ℕ
+  N = moments R
 
   abbrev cs : List Constraint
   cs = constraintsOf R
@@ -116,6 +117,23 @@ module _ (R : Rows) (z : Sound R) where
       go : (d : Demand) × List·Memᴰ d (sweep R) × (edge d ≡ c) → Kinds c
       go d = first (d .0) (d .2) (List·Memᴰ·append-cases partners (d .1))
 
+  -- no moment is before an earlier one
+  order-member : (i : ℕ) → i < K → List·Memᴰ (edge (plus (suc i) i 0 false)) cs
+  unfolding constraintsOf
+  order-member i l =
+      Memᴰ·map edge
+      (forth-swept (plus (suc i) i 0 false)
+      (among-forth (R .low) (R .far) (R .steps) n K 0 K i (plus (suc i) i 0 false) (omega arith) (omega arith)
+      (List·Memᴰ·head refl)))
+
+  pub rising : (x : ℕ → ℕ) → All cs x → (i m : ℕ) → i ≤ m → m ≤ K → x i ≤ x m
+  rising x h i zero a b = let e : i ≡ 0 = omega arith in rw e (omega arith)
+  rising x h i (suc m) a b = go (rising x h i m) (decLe i m)
+    where
+      go : (i ≤ m → m ≤ K → x i ≤ x m) → Dec (i ≤ m) → x i ≤ x (suc m)
+      go r (yes l) = omega (arith, r l (omega arith), h (edge (plus (suc m) m 0 false)) (order-member m (omega arith)))
+      go r (no l) = let e : i ≡ suc m = omega arith in rw e (omega arith)
+
   -- without guards between two clocks, what is checked back ends at a moment
   back-moment : getD (R .leads) (R .steps) 0 ≡ 0 → (c : Constraint) → List·Memᴰ c (ledBackEdges (R .up) (ledBy (R .leads)) (R .far) (R .steps) n K) → c .to ≤ K
   unfolding ledBackEdges
@@ -135,19 +153,19 @@ module _ (R : Rows) (z : Sound R) where
           (List·Memᴰ·append-cases (sideOf true (R .up) (R .far) K (a .step % R .steps) (a .step) 1 n) (a .member)) in
           rw (← d .2) l
 
-  fits : Fits P cs
+  fits : Fits N cs
   unfolding constraintsOf
-  fits = slight-fits P (sweep R) (z .slight)
+  fits = slight-fits N (sweep R) (z .slight)
 
   weights : Weights unit cs
   unfolding constraintsOf
-  weights = record { gain = slight-gains P (sweep R) (z .slight); loss = λ c m. go c (Memᴰ·of-map edge (sweep R) m) }
+  weights = record { gain = slight-gains N (sweep R) (z .slight); loss = λ c m. go c (Memᴰ·of-map edge (sweep R) m) }
     where
       go : (c : Constraint) → (d : Demand) × List·Memᴰ d (sweep R) × (edge d ≡ c) → c .loss ≤ unit
       go c d = rw (← d .2) (z .slight (d .0) (d .1) .loss)
 
   -- no last reset is after the start
-  past : (y : ℕ → ℕ) → All cs y → (v : ℕ) → K < v → v < P → y v ≤ y 0
+  past : (y : ℕ → ℕ) → All cs y → (v : ℕ) → K < v → v < N → y v ≤ y 0
   unfolding constraintsOf
   past y h v a w =
       let e : K + (v - K) ≡ v = omega arith in
@@ -162,19 +180,19 @@ module _ (R : Rows) (z : Sound R) where
   module _ (x : ℕ → ℕ) (h : LeastSolution R x) where
     -- ---- the least solution is near: otherwise what lies above an empty band could be lowered
     abbrev B : ℕ
-    B = 24012 * P
+    B = 24012 * N
 
-    near : (v : ℕ) → v < P → x v ≤ B + P * unit
-    near v w = go (decLe (x v) (B + P * unit))
+    near : (v : ℕ) → v < N → x v ≤ B + N * unit
+    near v w = go (decLe (x v) (B + N * unit))
       where
-        none-such : (g : (i : ℕ) × (i ≤ P) × Gap P unit x (B + i * unit)) → B + P * unit < x v → ⊥
+        none-such : (g : (i : ℕ) × (i ≤ N) × Gap N unit x (B + i * unit)) → B + N * unit < x v → ⊥
         none-such g l =
             let high : B + g .0 * unit < x v = omega (arith, mul-le-mul-right unit (g .1)) in
             omega (
               arith,
               moved-above (B + g .0 * unit) (λ q. q - 1) x v high,
               h .least (moved (B + g .0 * unit) (λ q. q - 1) x)
-                  (lowered-solves P unit cs fits weights x (h .solution) (B + g .0 * unit) (g .2)) (λ i m. above i m (decLt (B + g .0 * unit) (x i))) v w,
+                  (lowered-solves N unit cs fits weights x (h .solution) (B + g .0 * unit) (g .2)) (λ i m. above i m (decLt (B + g .0 * unit) (x i))) v w,
             )
           where
             above : (i : ℕ) → i ≤ K → Dec (B + g .0 * unit < x i) → B ≤ moved (B + g .0 * unit) (λ q. q - 1) x i
@@ -183,36 +201,36 @@ module _ (R : Rows) (z : Sound R) where
                 let q : x i ≤ B + g .0 * unit = omega arith in
                 omega (arith, moved-below (B + g .0 * unit) (λ q. q - 1) x i q, h .above i m)
 
-        go : Dec (x v ≤ B + P * unit) → x v ≤ B + P * unit
+        go : Dec (x v ≤ B + N * unit) → x v ≤ B + N * unit
         go (yes l) = l
-        go (no l) = absurd (none-such (gap P unit B x) (omega arith))
+        go (no l) = absurd (none-such (gap N unit B x) (omega arith))
 
     -- ---- the times begin with its moments and its start
-    module _ (τ : List ℕ) (e : (v : ℕ) → at τ v ≡ x v) (room : P ≤ length τ) (b : List ℕ) (began : Began τ K n b) where
+    module _ (τ : List ℕ) (e : (v : ℕ) → at τ v ≡ x v) (room : N ≤ length τ) (b : List ℕ) (began : Began τ K n b) where
       began-now : (i : ℕ) → i ≤ K → at b i ≡ x i
       began-now i m = began .now i m ∙ e i
 
-      began-past : (v : ℕ) → K < v → v < P → at b v ≡ x 0
+      began-past : (v : ℕ) → K < v → v < N → at b v ≡ x 0
       began-past v a w = began .past v a (omega arith) ∙ e 0
 
-      began-near : (v : ℕ) → v < P → at b v ≤ B + P * unit
+      began-near : (v : ℕ) → v < N → at b v ≤ B + N * unit
       began-near v w = go (decLe v K)
         where
-          go : Dec (v ≤ K) → at b v ≤ B + P * unit
+          go : Dec (v ≤ K) → at b v ≤ B + N * unit
           go (yes m) = omega (arith, began-now v m, near v w)
           go (no m) = omega (arith, began-past v (omega arith) w, near 0 (omega arith))
 
-      began-some : (v : ℕ) → v < P → at b v < none
+      began-some : (v : ℕ) → v < N → at b v < none
       began-some v w = omega (arith, began-near v w, sound-moments R z)
 
-      began-above : (v : ℕ) → v < P → x v ≤ at b v
+      began-above : (v : ℕ) → v < N → x v ≤ at b v
       began-above v w = go (decLe v K)
         where
           go : Dec (v ≤ K) → x v ≤ at b v
           go (yes m) = omega (arith, began-now v m)
           go (no m) = omega (arith, began-past v (omega arith) w, past x (h .solution) v (omega arith) w)
 
-      pub began-bounded : Bounded P steps b
+      pub began-bounded : Bounded N steps b
       began-bounded =
           record {
             room = omega (arith, began .size);
@@ -222,35 +240,39 @@ module _ (R : Rows) (z : Sound R) where
             gain = λ c m. omega (arith, weights .gain c (steps-member c m));
             loss = λ c m. omega (arith, weights .loss c (steps-member c m));
             high = λ v w. omega (arith, began-some v w);
-            near = λ v w q. omega (arith, began-near v w, reached-all b P began-some);
+            near = λ v w q. omega (arith, began-near v w, reached-all b N began-some);
             low = x;
             solves = λ c m. h .solution c (steps-member c m);
             below = λ v w q. began-above v w;
           }
 
       -- ---- what is left is the greatest solution with these moments
-      module _ (l′ : List ℕ) (falling : Falling P steps b l′)
-          (below : (c : Constraint) → List·Memᴰ c (forthEdges (R .low) (R .far) (R .steps) n K) → K < c .to → at l′ (c .from) < none → Holds c (at l′))
+      module _ (l′ : List ℕ) (falling : Falling N steps b l′)
+          (first : (i : ℕ) → i < R .steps → Settled (edges (forthAt (R .low) (R .far) (R .steps) n K i)) l′)
           (above : 0 < getD (R .leads) (R .steps) 0 → Settled (ledBackEdges (R .up) (ledBy (R .leads)) (R .far) (R .steps) n K) l′) where
-        some : (v : ℕ) → v < P → at l′ v < none
+        some : (v : ℕ) → v < N → at l′ v < none
         some v w = omega (arith, falling .falls v, began-some v w)
 
         -- a solution with these moments is under the bounds, when time is counted from k
-        under : (y : ℕ → ℕ) (k : ℕ) → All cs y → ((i : ℕ) → i ≤ K → y i ≡ x i + k) → Under P b k y
+        under : (y : ℕ → ℕ) (k : ℕ) → All cs y → ((i : ℕ) → i ≤ K → y i ≡ x i + k) → Under N b k y
         under y k s f v w q = go (decLe v K)
           where
             go : Dec (v ≤ K) → y v ≤ at b v + k
             go (yes m) = omega (arith, f v m, began-now v m)
             go (no m) = omega (arith, past y s v (omega arith) w, f 0 (omega arith), began-past v (omega arith) w)
 
-        greatest : (y : ℕ → ℕ) (k : ℕ) → All cs y → ((i : ℕ) → i ≤ K → y i ≡ x i + k) → (v : ℕ) → v < P → y v ≤ at l′ v + k
+        greatest : (y : ℕ → ℕ) (k : ℕ) → All cs y → ((i : ℕ) → i ≤ K → y i ≡ x i + k) → (v : ℕ) → v < N → y v ≤ at l′ v + k
         greatest y k s f v w = falling .greatest y (λ c m. s c (steps-member c m)) k (under y k s f) v w (some v w)
 
-        itself : (v : ℕ) → v < P → x v ≤ at l′ v
+        itself : (v : ℕ) → v < N → x v ≤ at l′ v
         itself v w = omega (arith, greatest x 0 (h .solution) (λ i m. omega arith) v w)
 
         now : (i : ℕ) → i ≤ K → at l′ i ≡ x i
         now i m = omega (arith, falling .falls i, began-now i m, itself i (omega arith))
+
+        -- so no moment is before an earlier one
+        rises : (i m : ℕ) → i ≤ m → m ≤ K → at l′ i ≤ at l′ m
+        rises i m a b = omega (arith, now i (omega arith), now m b, rising x (h .solution) i m a b)
 
         -- what ends at a moment still holds
         moment : (c : Constraint) → List·Memᴰ c cs → c .to ≤ K → Holds c (at l′)
@@ -265,7 +287,8 @@ module _ (R : Rows) (z : Sound R) where
             step (inl k) d = forth-step (decLt K (c .to))
               where
                 forth-step : Dec (K < c .to) → Holds c (at l′)
-                forth-step (yes l) = below c k l (some (c .from) (fits .from c m))
+                forth-step (yes l) =
+                    first-round (R .low) (R .far) (R .steps) n K (z .some) (z .near) l′ first rises c k l (some (c .from) (fits .from c m))
                 forth-step (no l) = moment c m (omega arith)
             step (inr k) (yes l) = above l c k (some (c .from) (fits .from c m))
             step (inr k) (no l) = moment c m (back-moment (omega arith) c k)
@@ -280,8 +303,8 @@ module _ (R : Rows) (z : Sound R) where
             go (inr (inr d)) =
                 let s = start-listed K 1 n (d .0) (d .1) in
                 let f : edge (plus 0 (K + s .0) 0 false) ≡ c = ap edge (sym (s .2)) ∙ d .2 in
-                let w : c .to < P = fits .to c m in
-                let w′ : K + s .0 < P = rw (← f) at w in
+                let w : c .to < N = fits .to c m in
+                let w′ : K + s .0 < N = rw (← f) at w in
                 rw (← f)
                 (omega (
                   arith,

@@ -1,16 +1,10 @@
 -- From the passes to what is written.
 use mathlib.Core.Path.{_≡_, refl, sym, ap, _∙_}
-use mathlib.Core.Bool.{false}
-use mathlib.Core.List.{List, _++_, List·Memᴰ, List·Memᴰ·head, Memᴰ·append-left, Memᴰ·append-right, Memᴰ·map}
+use mathlib.Core.List.{List}
 use Prim.Native.Nat.{ℕ, zero, suc, _+_, _*_, _-_, _≤_, _<_}
 use native.Mathlib.Omega.{arith}
 use native.Mathlib.Decide.{decLe}
 use lib.ListN.{length, drop, replicate, length-replicate, getD-replicate}
-use Rattle.runs.specs.Demand.{plus, startsOf}
-use Rattle.runs.specs.Start.{start-upper}
-use Rattle.leads.specs.Leads.{ledBy}
-use Rattle.sweeps.specs.Order.{returnOf, partnersFrom}
-use Rattle.sweeps.specs.Covered.{among-forth}
 use Rattle.basics.specs.Tab.{tab, is-tab, length-tab, getD-tab}
 use Rattle.paths.specs.Places.{at, written, filled, length-written, at-written, at-written-rest}
 use Rattle.paths.specs.Walk.{ring-few}
@@ -18,18 +12,17 @@ use Rattle.paths.specs.Constraint.{Constraint, All}
 use Rattle.paths.specs.State.{State, state}
 use Rattle.paths.specs.Bounds.{Room}
 use Rattle.paths.specs.Code.{Wrote, wrote-rest, Returns, cycle-returns}
-use Rattle.checks.specs.InParts.{edge}
 use Rattle.relaxing.specs.Rows.{Rows, moments, constraintsOf, Sound, going-low, going-up}
 use Rattle.relaxing.specs.Passes.{Begins, Ready, Ended}
 use Rattle.readout.specs.Late.{Rowed, Told}
-use Rattle.solving.specs.Latest.{began-bounded, lowered-latest}
+use Rattle.solving.specs.Latest.{rising, began-bounded, lowered-latest}
 use Rattle.solving.specs.Solved.{Above, LeastSolution, Plans, Cycles}
 
--- What is asked of the rooms.
-pub record Roomy (R : Rows) (t s l : List ℕ) : Type 0 where
-  pub times : R .total ≤ length t
-  pub starts : R .clocks ≤ length s
-  pub loop : moments R ≤ length l
+-- What is asked of the rooms for K steps and n clocks.
+pub record Roomy (K n : ℕ) (t s l : List ℕ) : Type 0 where
+  pub times : K ≤ length t
+  pub starts : n ≤ length s
+  pub loop : K + n + 1 ≤ length l
 
 -- What is asked of the space to work in: it is cleared.
 pub record Spacious (R : Rows) (s : State) (marks : List ℕ) : Type 0 where
@@ -59,16 +52,16 @@ module _ (R : Rows) (z : Sound R) where
   abbrev n : ℕ
   n = R .clocks
 
-  abbrev P : ℕ
-  P = moments R
+  abbrev N : ℕ
+  N = moments R
 
   abbrev cs : List Constraint
   cs = constraintsOf R
 
   -- ---- before the passes
-  -- times of which K + 1 are set to 24,012 ticks, in a cleared space, are the start values
+  -- times of which K + 1 are set to 24,012 N, in a cleared space, are the start values
   pub start-ready : (time time₁ parent stamp marks : List ℕ) → Spacious R (state time parent stamp) marks
-      → time₁ ≡ filled (24012 * P) (K + 1) time → Ready R (state time₁ parent stamp) marks
+      → time₁ ≡ filled (24012 * N) (K + 1) time → Ready R (state time₁ parent stamp) marks
   start-ready time time₁ parent stamp marks h e =
       record {
         sound = z;
@@ -80,58 +73,44 @@ module _ (R : Rows) (z : Sound R) where
                         omega (
                           arith,
                           ap length e,
-                          length-written (λ i. 24012 * P) (K + 1) time (omega (arith, h .room .time)),
+                          length-written (λ i. 24012 * N) (K + 1) time (omega (arith, h .room .time)),
                           h .room .time,
                         );
                     parent = h .room .parent;
                     stamp = h .room .stamp;
                   };
               unstamped = h .unstamped;
-              now = λ v l. ap (λ (l : List ℕ). at l v) e ∙ at-written (λ i. 24012 * P) (K + 1) time v (omega arith);
+              now = λ v l. ap (λ (l : List ℕ). at l v) e ∙ at-written (λ i. 24012 * N) (K + 1) time v (omega arith);
               past = λ v l w.
                   ap (λ (l : List ℕ). at l v) e
-                  ∙ at-written-rest (λ i. 24012 * P) (K + 1) time v (omega arith)
+                  ∙ at-written-rest (λ i. 24012 * N) (K + 1) time v (omega arith)
                   ∙ h .timeless v w;
             };
         room = h .marked;
       }
 
-  -- ---- a solution: no moment is before the one before it
-  order-member : (i : ℕ) → i < K → List·Memᴰ (edge (plus (suc i) i 0 false)) cs
-  unfolding constraintsOf
-  order-member i l =
-      Memᴰ·map edge
-      (Memᴰ·append-right (partnersFrom K (startsOf (R .start)) 1 n)
-      (Memᴰ·append-left (returnOf (R .up) (ledBy (R .leads)) (R .far) (R .steps) n K)
-      (among-forth (R .low) (R .far) (R .steps) n K 0 K i (plus (suc i) i 0 false) (omega arith) (omega arith)
-      (List·Memᴰ·head refl))))
-
-  rising : (x : ℕ → ℕ) → All cs x → (i : ℕ) → i ≤ K → x 0 ≤ x i
-  rising x h zero l = omega arith
-  rising x h (suc i) l = omega (arith, rising x h i (omega arith), h (edge (plus (suc i) i 0 false)) (order-member i (omega arith)))
-
   -- ---- after them
-  module _ (s s′ : State) (u : ℕ) (b : Begins P K n s) (e : Ended P cs s s′ u) where
-    least : P ≤ u → LeastSolution R (at (s′ .time))
+  module _ (s s′ : State) (u : ℕ) (b : Begins K n s) (e : Ended N cs s s′ u) where
+    least : N ≤ u → LeastSolution R (at (s′ .time))
     least l = record { solution = e .solved l; above = above; least = below }
       where
-        above : Above P K (at (s′ .time))
+        above : Above N K (at (s′ .time))
         above i m = omega (arith, b .now i m, e .rises i)
 
-        below : (y : ℕ → ℕ) → All cs y → Above P K y → (v : ℕ) → v < P → at (s′ .time) v ≤ y v
+        below : (y : ℕ → ℕ) → All cs y → Above N K y → (v : ℕ) → v < N → at (s′ .time) v ≤ y v
         below y h q v w = e .least y h (λ m k. first m k (decLe m K)) v w
           where
-            first : (m : ℕ) → m < P → Dec (m ≤ K) → at (s .time) m ≤ y m
+            first : (m : ℕ) → m < N → Dec (m ≤ K) → at (s .time) m ≤ y m
             first m k (yes c) = omega (arith, b .now m c, q m c)
             first m k (no c) = omega (arith, b .past m (omega arith) k)
 
     -- A cycle is written out.
-    pub answer-cycle : u < P → (times starts out out′ : List ℕ) (m : ℕ) → Wrote (s′ .parent) u out out′ m
+    pub answer-cycle : u < N → (times starts out out′ : List ℕ) (m : ℕ) → Wrote (s′ .parent) u out out′ m
         → Cycles R times starts out times starts out′ m
     answer-cycle l times starts out out′ m w =
         record {
           cycle = e .negative l m out out′ w;
-          short = ring-few (at (s′ .parent)) P u m (w .ring) (e .cycle l .inside);
+          short = ring-few (at (s′ .parent)) N u m (w .ring) (e .cycle l .inside);
           few = w .few;
           size = ap length (w .contents) ∙ length-written _ m out (w .few);
           rest = wrote-rest (s′ .parent) u out out′ m w;
@@ -139,26 +118,27 @@ module _ (R : Rows) (z : Sound R) where
           starts = refl;
         }
 
-    pub answer-returns : (room : ℕ) → P ≤ room → u < P → Returns (s′ .parent) room u
+    pub answer-returns : (room : ℕ) → N ≤ room → u < N → Returns (s′ .parent) room u
     answer-returns room l w =
-        cycle-returns P room (s′ .parent) (s′ .stamp) u
+        cycle-returns N room (s′ .parent) (s′ .stamp) u
         (omega (arith, e .size .parent, b .room .parent)) l (e .cycle w)
 
     -- There is a time for each moment, none before the first.
     pub answer-times : K < length (s′ .time)
     answer-times = omega (arith, e .size .time, b .room .time)
 
-    pub answer-moments : P ≤ u → (i : ℕ) → i ≤ K → at (s′ .time) 0 ≤ at (s′ .time) i
-    answer-moments l i m = rising (at (s′ .time)) (e .solved l) i m
+    pub answer-moments : N ≤ u → (i : ℕ) → i ≤ K → at (s′ .time) 0 ≤ at (s′ .time) i
+    answer-moments l i m = rising R z (at (s′ .time)) (e .solved l) 0 i (omega arith) m
 
     -- The smallest starts can be computed.
-    pub answer-rowed : P ≤ u → (starts : List ℕ) → n ≤ length starts
+    pub answer-rowed : N ≤ u → (starts : List ℕ) → n ≤ length starts
         → Rowed (R .low) (R .up) (R .leads) (R .far) (R .steps) n K (s′ .time) starts
     answer-rowed l starts c =
         record {
           below = going-low R z;
           above = going-up R z;
           led = z .leads;
+          round = z .round;
           whole = z .whole;
           times = omega (arith, e .size .time, b .room .time);
           starts = c;
@@ -166,7 +146,7 @@ module _ (R : Rows) (z : Sound R) where
         }
 
     -- The moments and the smallest starts are written out.
-    pub answer-plan : P ≤ u → (times starts room times′ starts′ late : List ℕ)
+    pub answer-plan : N ≤ u → (times starts room times′ starts′ late : List ℕ)
         → times′ ≡ written (λ i. at (s′ .time) (i + 1) - at (s′ .time) 0) K times
         → Told (R .low) (R .up) (R .leads) (R .far) (R .steps) n K (s′ .time) late starts starts′
         → Plans R times starts room times′ starts′ room

@@ -9,12 +9,12 @@ use Rattle.relaxing.specs.Rows.{Rows, moments, constraintsOf}
 use Rattle.solving.specs.declared.Solution.{Solution}
 use Rattle.solving.specs.declared.Solution.the-variants.{Least, Cycle}
 
--- the times x of moments 0 to K are not before 24012 ticks of P parts
+-- the start values of N moments: 24012 N for moments 0 to K, which is 24012 ticks or more wherever a tick has at most N parts, and 0 for
+-- the last resets before the start; the times x are not below them
 abbrev pub Above : ℕ → ℕ → (ℕ → ℕ) → Type 0
-Above P K x = (i : ℕ) → i ≤ K → 24012 * P ≤ x i
+Above N K x = (i : ℕ) → i ≤ K → 24012 * N ≤ x i
 
--- x is the least solution that is not below the start values: 24012 ticks for moments 0 to K, and 0 for the last resets before
--- the start.
+-- x is the least solution that is not below the start values
 pub record LeastSolution (R : Rows) (x : ℕ → ℕ) : Type 0 where
   pub solution : All (constraintsOf R) x
   pub above : Above (moments R) (R .total) x

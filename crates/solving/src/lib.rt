@@ -36,7 +36,7 @@ pub fn solve(
     marks: &mut [u64],
 ) -> Solution
     requires { ⌜ Sound (rows (now low) (now up) (now leads) (now far) start steps clocks total)
-        × Roomy (rows (now low) (now up) (now leads) (now far) start steps clocks total) (now times) (now starts) (now room)
+        × Roomy total clocks (now times) (now starts) (now room)
         × Spacious (rows (now low) (now up) (now leads) (now far) start steps clocks total) (state (now time) (now parent) (now stamp)) (now marks) ⌝ }
     ensures { λ a. ⌜ Solved (rows (now (low .entry)) (now (up .entry)) (now (leads .entry)) (now (far .entry)) start steps clocks total)
         (now (times .entry)) (now (starts .entry)) (now (room .entry))

@@ -22,7 +22,7 @@ fn solve_small(
     room: &mut [u64],
 ) -> Solution
     requires { ⌜ Sound (rows (now low) (now up) (now leads) (now far) start steps clocks total)
-        × Roomy (rows (now low) (now up) (now leads) (now far) start steps clocks total) (now times) (now starts) (now room)
+        × Roomy total clocks (now times) (now starts) (now room)
         × (total + clocks < 64) ⌝ }
     ensures { λ a. ⌜ Solved (rows (now (low .entry)) (now (up .entry)) (now (leads .entry)) (now (far .entry)) start steps clocks total)
         (now (times .entry)) (now (starts .entry)) (now (room .entry))
@@ -66,7 +66,7 @@ fn solve_large(
     room: &mut [u64],
 ) -> Solution
     requires { ⌜ Sound (rows (now low) (now up) (now leads) (now far) start steps clocks total)
-        × Roomy (rows (now low) (now up) (now leads) (now far) start steps clocks total) (now times) (now starts) (now room) ⌝ }
+        × Roomy total clocks (now times) (now starts) (now room) ⌝ }
     ensures { λ a. ⌜ Solved (rows (now (low .entry)) (now (up .entry)) (now (leads .entry)) (now (far .entry)) start steps clocks total)
         (now (times .entry)) (now (starts .entry)) (now (room .entry))
         (now (times .exit)) (now (starts .exit)) (now (room .exit)) a ⌝ }
@@ -109,7 +109,7 @@ pub fn solve_here(
     room: &mut [u64],
 ) -> Solution
     requires { ⌜ Sound (rows (now low) (now up) (now leads) (now far) start steps clocks total)
-        × Roomy (rows (now low) (now up) (now leads) (now far) start steps clocks total) (now times) (now starts) (now room) ⌝ }
+        × Roomy total clocks (now times) (now starts) (now room) ⌝ }
     ensures { λ a. ⌜ Solved (rows (now (low .entry)) (now (up .entry)) (now (leads .entry)) (now (far .entry)) start steps clocks total)
         (now (times .entry)) (now (starts .entry)) (now (room .entry))
         (now (times .exit)) (now (starts .exit)) (now (room .exit)) a ⌝ }

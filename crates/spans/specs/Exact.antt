@@ -10,7 +10,7 @@ use lib.Seq.{getD-set-same, getD-set-other}
 use Rattle.table.specs.declared.Table.{Table}
 use Rattle.runs.specs.declared.Start.the-variants.{LogIn}
 use Rattle.runs.specs.Demand.{startsOf, Exists}
-use Rattle.constraints.specs.Sized.{Sized, partsOf, roundsOf}
+use Rattle.constraints.specs.Sized.{Sized, momentsOf, partsOf, roundsOf}
 use Rattle.paths.specs.Places.{at, filled, length-written, at-written, at-written-rest}
 use Rattle.leads.specs.Leads.{ledBy, Leading}
 use Rattle.ways.specs.Forth.{Going}
@@ -22,7 +22,7 @@ use Rattle.plan.specs.Answer.{Rooms, momentsIn, startsIn, Planning, Answered}
 use Rattle.plan.specs.Asked.{sized-asked}
 use Rattle.plan.specs.Decides.{refuted-none}
 use Rattle.plan.specs.Found.{outcomeOf}
-use Rattle.plan.specs.Rows.{rowsOf, rows-sound, Computed}
+use Rattle.plan.specs.Rows.{rowsOf, Parts, parts-moments, rows-sound, Computed}
 use Rattle.window.specs.Window.{far, spanOf}
 use Rattle.lowering.specs.Lowered.{none}
 use Rattle.lowering.specs.Bounded.{Bounded}
@@ -41,7 +41,7 @@ pub record Plannable (t : Table) (k : ℕ) : Type 0 where
 pub record Bounding (t : Table) (k : ℕ) (l : List ℕ) : Type 0 where
   pub first : List ℕ
   pub begins : Begins (k * t .steps) (t .clocks) first
-  pub greatest : Greatest (partsOf t k) (stepsOf t k) first l
+  pub greatest : Greatest (momentsOf t k) (stepsOf (partsOf t k) t k) first l
 
 -- The first moments of the steps of k rounds, and the last ones from place 1 on, tell their spans; and the first ones are near.
 pub record Told (t : Table) (k : ℕ) (firsts lasts : List ℕ) : Type 0 where
@@ -68,14 +68,20 @@ module _ (t : Table) (k : ℕ) (z : Sized t k) where
   abbrev n : ℕ
   n = t .clocks
 
+  abbrev N : ℕ
+  N = momentsOf t k
+
   abbrev P : ℕ
   P = partsOf t k
 
+  enough : Parts P t LogIn k
+  enough = parts-moments t LogIn k
+
   -- ---- the bounds to begin with: 0 everywhere, then none for moments 0 to K, then 0 for moment 0
-  module _ (l l₁ l₂ l₃ : List ℕ) (room : P ≤ length l) (e : l₁ ≡ filled 0 P l) (f : l₂ ≡ filled none (K + 1) l₁)
+  module _ (l l₁ l₂ l₃ : List ℕ) (room : N ≤ length l) (e : l₁ ≡ filled 0 N l) (f : l₂ ≡ filled none (K + 1) l₁)
       (g : l₃ ≡ set l₂ 0 0) where
     size₁ : length l₁ ≡ length l
-    size₁ = ap length e ∙ length-written (λ _. 0) P l room
+    size₁ = ap length e ∙ length-written (λ _. 0) N l room
 
     size₂ : length l₂ ≡ length l₁
     size₂ = ap length f ∙ length-written (λ _. none) (K + 1) l₁ (omega (arith, size₁, room))
@@ -102,29 +108,29 @@ module _ (t : Table) (k : ℕ) (z : Sized t k) where
               ∙ ap (λ (x : List ℕ). at x (K + j)) f
               ∙ at-written-rest (λ _. none) (K + 1) l₁ (K + j) (omega arith)
               ∙ ap (λ (x : List ℕ). at x (K + j)) e
-              ∙ at-written (λ _. 0) P l (K + j) (omega arith);
+              ∙ at-written (λ _. 0) N l (K + j) (omega arith);
         }
 
   -- ---- the rows as they were computed
-  module _ (low up leads distances : List ℕ) (c : Computed t k low up leads distances) where
-    same : ledEdges low up (ledBy leads) distances (t .steps) n K ≡ stepsOf t k
+  module _ (low up leads distances : List ℕ) (c : Computed P t low up leads distances) where
+    same : ledEdges low up (ledBy leads) distances (t .steps) n K ≡ stepsOf P t k
     same = rw (c .below, c .above, c .led, c .distances) refl
 
     pub rows-going : Going low distances (t .steps) n K × Going up distances (t .steps) n K
     rows-going =
         rw (c .below, c .above, c .distances)
-        (going-low (rowsOf t LogIn k) (rows-sound t LogIn k z), going-up (rowsOf t LogIn k) (rows-sound t LogIn k z))
+        (going-low (rowsOf P t LogIn k) (rows-sound P t LogIn k z enough), going-up (rowsOf P t LogIn k) (rows-sound P t LogIn k z enough))
 
     pub rows-leading : Leading leads (t .steps)
-    rows-leading = rw (c .led) (rows-sound t LogIn k z .leads)
+    rows-leading = rw (c .led) (rows-sound P t LogIn k z enough .leads)
 
-    pub rows-bounded : Plannable t k → (l : List ℕ) → Begins K n l → Bounded P (ledEdges low up (ledBy leads) distances (t .steps) n K) l
+    pub rows-bounded : Plannable t k → (l : List ℕ) → Begins K n l → Bounded N (ledEdges low up (ledBy leads) distances (t .steps) n K) l
     rows-bounded p l b =
-        subst (λ cs. Bounded P cs l) (sym same) (begins-bounded t k z (p .moments) (p .starts) (p .planned) l b)
+        subst (λ cs. Bounded N cs l) (sym same) (begins-bounded P t k z enough (p .moments) (p .starts) (p .planned) l b)
 
-    pub rows-bounding : (l₀ l : List ℕ) → Begins K n l₀ → Greatest P (ledEdges low up (ledBy leads) distances (t .steps) n K) l₀ l
+    pub rows-bounding : (l₀ l : List ℕ) → Begins K n l₀ → Greatest N (ledEdges low up (ledBy leads) distances (t .steps) n K) l₀ l
         → Bounding t k l
-    rows-bounding l₀ l b h = record { first = l₀; begins = b; greatest = subst (λ cs. Greatest P cs l₀ l) same h }
+    rows-bounding l₀ l b h = record { first = l₀; begins = b; greatest = subst (λ cs. Greatest N cs l₀ l) same h }
 
   pub whole : K % t .steps ≡ 0
   whole = mul-mod-left k (t .steps)
@@ -139,7 +145,7 @@ module _ (t : Table) (k : ℕ) (z : Sized t k) where
       pub plan-plannable : Plannable t k
       plan-plannable = record { moments = momentsIn (r′ .times); starts = startsIn (r′ .starts); planned = found .planned }
 
-      pub plan-room : P ≤ length (r .loop) → P ≤ length (r′ .loop)
+      pub plan-room : N ≤ length (r .loop) → N ≤ length (r′ .loop)
       plan-room w = omega (arith, w, ap length (found .loop))
 
       pub plan-exact : (l : List ℕ) (b : Bool) → (b ≡ true) × Bounding t k l → Exact t k (r′ .times) l b
@@ -148,9 +154,9 @@ module _ (t : Table) (k : ℕ) (z : Sized t k) where
           told : Told t k (r′ .times) l
           told =
               record {
-                near = λ i w. first-far t k z _ _ (found .planned) (suc i) (omega arith);
+                near = λ i w. first-far P t k z enough _ _ (found .planned) (suc i) (omega arith);
                 spans = λ i w.
-                    span-found t k z _ _ (found .planned) (g .1 .first) l (g .1 .begins) (g .1 .greatest) (suc i) (omega arith);
+                    span-found P t k z enough _ _ (found .planned) (g .1 .first) l (g .1 .begins) (g .1 .greatest) (suc i) (omega arith);
               }
 
     -- a loop

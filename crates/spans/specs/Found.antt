@@ -14,7 +14,7 @@ use Rattle.runs.specs.declared.Demand.{Demand}
 use Rattle.runs.specs.declared.Start.the-variants.{LogIn}
 use Rattle.runs.specs.Demand.{plus, Starts, zeroStarts, anyStarts, moved, startDemands, startsOf}
 use Rattle.constraints.specs.Rounds.{length-rounds}
-use Rattle.constraints.specs.Sized.{Sized, partsOf, roundsOf, sized-parts}
+use Rattle.constraints.specs.Sized.{Sized, momentsOf, roundsOf, sized-moments}
 use Rattle.sides.specs.Keys.{keysOf}
 use Rattle.last_resets.specs.Distance.{distancesOf}
 use Rattle.leads.specs.Leads.{ledBy}
@@ -25,7 +25,7 @@ use Rattle.paths.specs.Constraint.{Constraint, Holds, All}
 use Rattle.checks.specs.InParts.{inParts, allInParts, edge, edges, edges-scaled}
 use Rattle.relaxing.specs.Rows.{constraintsOf}
 use Rattle.plan.specs.Planned.{Planned}
-use Rattle.plan.specs.Rows.{keysIn, leadsIn, rowsOf}
+use Rattle.plan.specs.Rows.{keysIn, leadsIn, rowsOf, Parts}
 use Rattle.window.specs.Window.{far, spanOf}
 use Rattle.window.specs.Spans.{span-closed, span-open}
 use Rattle.lowering.specs.Lowered.{none}
@@ -67,11 +67,11 @@ partner-listed K j (suc n) d p m =
     go h (inl x) = here (List·Memᴰ·cases-cons x)
     go h (inr x) = h x
 
--- the demands of the steps of k rounds, in parts
-abbrev pub stepsOf : Table → ℕ → List Constraint
-stepsOf t k = ledEdges (keysIn false t k) (keysIn true t k) (ledBy (leadsIn t k)) (distancesOf t) (t .steps) (t .clocks) (k * t .steps)
+-- the demands of the steps of k rounds, in P parts to a tick
+abbrev pub stepsOf : ℕ → Table → ℕ → List Constraint
+stepsOf P t k = ledEdges (keysIn false P t) (keysIn true P t) (ledBy (leadsIn P t)) (distancesOf t) (t .steps) (t .clocks) (k * t .steps)
 
-module _ (t : Table) (k : ℕ) (z : Sized t k) where
+module _ (P : ℕ) (t : Table) (k : ℕ) (z : Sized t k) (enough : Parts P t LogIn k) where
   abbrev K : ℕ
   K = k * t .steps
 
@@ -87,23 +87,23 @@ module _ (t : Table) (k : ℕ) (z : Sized t k) where
   abbrev D : Starts
   D = startsOf LogIn
 
-  abbrev P : ℕ
-  P = partsOf t k
+  abbrev N : ℕ
+  N = momentsOf t k
 
   abbrev cs : List Constraint
-  cs = constraintsOf (rowsOf t LogIn k)
+  cs = constraintsOf (rowsOf P t LogIn k)
 
   abbrev low : List ℕ
-  low = keysIn false t k
+  low = keysIn false P t
 
   abbrev up : List ℕ
-  up = keysIn true t k
+  up = keysIn true P t
 
   abbrev distances : List ℕ
   distances = distancesOf t
 
   abbrev steps : List Constraint
-  steps = stepsOf t k
+  steps = stepsOf P t k
 
   abbrev partners : List Demand
   partners = partnersFrom K D 1 n
@@ -112,7 +112,7 @@ module _ (t : Table) (k : ℕ) (z : Sized t k) where
   forth = forthOf low distances L n K 0 K
 
   abbrev back : List Demand
-  back = backOf up (ledBy (leadsIn t k)) distances L n K K
+  back = backOf up (ledBy (leadsIn P t)) distances L n K K
 
   abbrev starts : List Demand
   starts = startDemands K anyStarts 1 n
@@ -161,35 +161,35 @@ module _ (t : Table) (k : ℕ) (z : Sized t k) where
   -- ---- a plan, and bounds
   module _ (u s : ℕ → ℕ) (p : Planned P n σ D u s) where
     e : ℕ → ℕ
-    e = timesOf t k z u s (p .run) (p .allowed)
+    e = timesOf P t k z enough u s (p .run) (p .allowed)
 
     solves : All cs e
     unfolding e
-    solves = times-solve t k z u s (p .run) (p .allowed)
+    solves = times-solve P t k z enough u s (p .run) (p .allowed)
 
     -- the lists that the bounds begin with can be lowered: the plan is not above them
-    pub begins-bounded : (l : List ℕ) → Begins K n l → Bounded P steps l
+    pub begins-bounded : (l : List ℕ) → Begins K n l → Bounded N steps l
     unfolding e
     begins-bounded l b =
         record {
           room = b .room;
-          few = sized-parts t k z;
-          from = λ c m. all-fit t k z .from c (steps-among c m);
-          to = λ c m. all-fit t k z .to c (steps-among c m);
-          gain = λ c m. all-weights t k z .gain c (steps-among c m);
-          loss = λ c m. all-weights t k z .loss c (steps-among c m);
+          few = sized-moments t k z;
+          from = λ c m. all-fit P t k z enough .from c (steps-among c m);
+          to = λ c m. all-fit P t k z enough .to c (steps-among c m);
+          gain = λ c m. all-weights P t k z enough .gain c (steps-among c m);
+          loss = λ c m. all-weights P t k z enough .loss c (steps-among c m);
           high = λ v w. place (λ v x. x ≤ none) (omega arith) (λ i q r. omega arith) (λ j q r. omega arith) v w;
-          near = λ v w. place (λ v x. x < none → x ≤ reached l P * unit) (λ h. omega arith) (λ i q r h. absurd (omega arith)) (λ j q r h. omega arith) v w;
+          near = λ v w. place (λ v x. x < none → x ≤ reached l N * unit) (λ h. omega arith) (λ i q r h. absurd (omega arith)) (λ j q r h. omega arith) v w;
           low = e;
           solves = λ c m. solves c (steps-among c m);
           below = λ v w.
-              place (λ v x. x < none → e v ≤ x) (λ h. omega (arith, times-start t k z u s (p .run) (p .allowed)))
-              (λ i q r h. absurd (omega arith)) (λ j q r h. omega (arith, times-past t k z u s (p .run) (p .allowed) j q)) v w;
+              place (λ v x. x < none → e v ≤ x) (λ h. omega (arith, times-start P t k z enough u s (p .run) (p .allowed)))
+              (λ i q r h. absurd (omega arith)) (λ j q r h. omega (arith, times-past P t k z enough u s (p .run) (p .allowed) j q)) v w;
         }
       where
         -- place by place
         place : (Q : ℕ → ℕ → Type 0) → Q 0 0 → ((i : ℕ) → 0 < i → i ≤ K → Q i none) → ((j : ℕ) → 0 < j → j ≤ n → Q (K + j) 0)
-            → (v : ℕ) → v < P → Q v (at l v)
+            → (v : ℕ) → v < N → Q v (at l v)
         place Q a f g v w = go (decLt 0 v) (decLe v K)
           where
             go : Dec (0 < v) → Dec (v ≤ K) → Q v (at l v)
@@ -202,18 +202,18 @@ module _ (t : Table) (k : ℕ) (z : Sized t k) where
     -- no solution has an earlier moment
     early : (v : ℕ) → v ≤ K → (y : ℕ → ℕ) → All cs y → y 0 + e v ≤ y v + e 0
     unfolding e
-    early v l y h = go (run-of t k z (λ x. x v ≡ y v - y 0) y h refl)
+    early v l y h = go (run-of P t k z enough (λ x. x v ≡ y v - y 0) y h refl)
       where
         go : With P n σ D (λ x. x v ≡ y v - y 0)
-            → y 0 + timesOf t k z u s (p .run) (p .allowed) v ≤ y v + timesOf t k z u s (p .run) (p .allowed) 0
+            → y 0 + timesOf P t k z enough u s (p .run) (p .allowed) v ≤ y v + timesOf P t k z enough u s (p .run) (p .allowed) 0
         go w =
             omega (
               arith,
               w .fact,
               p .earliest (w .moments) (w .starts) (w .run) (w .allowed) v (omega (arith, length-rounds t k)),
-              all-now t k z y h v l,
-              times-now t k z u s (p .run) (p .allowed) v l,
-              times-start t k z u s (p .run) (p .allowed),
+              all-now P t k z enough y h v l,
+              times-now P t k z enough u s (p .run) (p .allowed) v l,
+              times-start P t k z enough u s (p .run) (p .allowed),
             )
 
     -- The earliest moments are near.
@@ -222,9 +222,9 @@ module _ (t : Table) (k : ℕ) (z : Sized t k) where
     first-far i l =
         omega (
           arith,
-          first-near P cs (sized-parts t k z) (all-fit t k z) (all-weights t k z) e solves i (early i l),
-          times-now t k z u s (p .run) (p .allowed) i l,
-          times-start t k z u s (p .run) (p .allowed),
+          first-near N cs (sized-moments t k z) (all-fit P t k z enough) (all-weights P t k z enough) e solves i (early i l),
+          times-now P t k z enough u s (p .run) (p .allowed) i l,
+          times-start P t k z enough u s (p .run) (p .allowed),
         )
 
     earliest : (i : ℕ) → i ≤ K → Earliest P n σ D i (u i)
@@ -234,23 +234,23 @@ module _ (t : Table) (k : ℕ) (z : Sized t k) where
           bound = λ q r w b. p .earliest q r w b i (omega (arith, length-rounds t k));
         }
 
-    module _ (l₀ l : List ℕ) (b : Begins K n l₀) (g : Greatest P steps l₀ l) where
+    module _ (l₀ l : List ℕ) (b : Begins K n l₀) (g : Greatest N steps l₀ l) where
       start : at l 0 ≡ 0
       start = omega (arith, g .falling .falls 0, b .start)
 
-      past : (j : ℕ) → 0 < j → K + j < P → at l (K + j) ≡ 0
+      past : (j : ℕ) → 0 < j → K + j < N → at l (K + j) ≡ 0
       past j q w = omega (arith, g .falling .falls (K + j), b .past j q (omega arith))
 
       -- the bounds of the start and of the last resets before it hold of each other
-      end : (v : ℕ) → v < P → (v ≡ 0) ⊎ ((j : ℕ) × (0 < j) × (v ≡ K + j)) → at l v ≡ 0
+      end : (v : ℕ) → v < N → (v ≡ 0) ⊎ ((j : ℕ) × (0 < j) × (v ≡ K + j)) → at l v ≡ 0
       end v w (inl q) = rw q start
-      end v w (inr q) = let x : K + q .0 < P = omega (arith, q .2) in rw (q .2) (past (q .0) (q .1) x)
+      end v w (inr q) = let x : K + q .0 < N = omega (arith, q .2) in rw (q .2) (past (q .0) (q .1) x)
 
-      tops : Tops P cs l
+      tops : Tops N cs l
       tops =
           record {
             start = start;
-            near = bounded-near P steps l (g .falling .bounded);
+            near = bounded-near N steps l (g .falling .bounded);
             settled = λ c m h. holds c m h (all-cases c m);
             greatest = λ y h.
                 g .falling .greatest y (λ c m. h c (steps-among c m)) (y 0)
@@ -260,49 +260,49 @@ module _ (t : Table) (k : ℕ) (z : Sized t k) where
           holds : (c : Constraint) → List·Memᴰ c cs → at l (c .from) < none → List·Memᴰ c steps ⊎ AtStart c → Holds c (at l)
           holds c m h (inl q) = g .settled c q h
           holds c m h (inr q) =
-              omega (arith, q .gain, end (c .to) (all-fit t k z .to c m) (q .to))
+              omega (arith, q .gain, end (c .to) (all-fit P t k z enough .to c m) (q .to))
 
-          under : (y : ℕ → ℕ) → All cs y → (v : ℕ) → v < P → at l₀ v < none → Dec (0 < v) → Dec (v ≤ K) → y v ≤ at l₀ v + y 0
+          under : (y : ℕ → ℕ) → All cs y → (v : ℕ) → v < N → at l₀ v < none → Dec (0 < v) → Dec (v ≤ K) → y v ≤ at l₀ v + y 0
           under y h v w q (no x) d = let f : v ≡ 0 = omega arith in rw f (omega arith)
           under y h v w q (yes x) (yes d) = absurd (omega (arith, b .steps v x d))
           under y h v w q (yes x) (no d) =
               let f : v ≡ K + (v - K) = omega arith in
-              omega (arith, ap y f, all-past t k z y h (v - K) (omega arith) (omega arith))
+              omega (arith, ap y f, all-past P t k z enough y h (v - K) (omega arith) (omega arith))
 
       -- Where every step has a last moment, all of them together are a run.
       pub latest-run : ((i : ℕ) → 0 < i → i ≤ K → at l i < none) → With P n σ D (λ x. (i : ℕ) → i ≤ K → x i ≡ at l i)
-      latest-run h = run-of t k z (λ x. (i : ℕ) → i ≤ K → x i ≡ at l i) (at l) all (λ i w. omega (arith, start))
+      latest-run h = run-of P t k z enough (λ x. (i : ℕ) → i ≤ K → x i ≡ at l i) (at l) all (λ i w. omega (arith, start))
         where
-          each : (v : ℕ) → v < P → Dec (0 < v) → Dec (v ≤ K) → at l v < none
+          each : (v : ℕ) → v < N → Dec (0 < v) → Dec (v ≤ K) → at l v < none
           each v w (no x) d = let f : v ≡ 0 = omega arith in rw f (omega (arith, start))
           each v w (yes x) (yes d) = h v x d
           each v w (yes x) (no d) =
               let f : v ≡ K + (v - K) = omega arith in rw f (omega (arith, past (v - K) (omega arith) (omega arith)))
 
           all : All cs (at l)
-          all = tops-solve P cs (all-fit t k z) (all-weights t k z) l tops e solves (λ v w. each v w (decLt 0 v) (decLe v K))
+          all = tops-solve N cs (all-fit P t k z enough) (all-weights P t k z enough) l tops e solves (λ v w. each v w (decLt 0 v) (decLe v K))
 
       module _ (i : ℕ) (w : i ≤ K) where
         latest : at l i < none → Latest P n σ D i (at l i)
-        latest h = go (last-found P cs (all-fit t k z) (all-weights t k z) l tops e solves i (omega arith) h)
+        latest h = go (last-found N cs (all-fit P t k z enough) (all-weights P t k z enough) l tops e solves i (omega arith) h)
           where
             go : Last cs i (at l i) → Latest P n σ D i (at l i)
             go q =
                 record {
-                  reached = run-of t k z (λ x. x i ≡ at l i) (q .reached .0) (q .reached .1) (omega (arith, q .reached .2));
+                  reached = run-of P t k z enough (λ x. x i ≡ at l i) (q .reached .0) (q .reached .1) (omega (arith, q .reached .2));
                   bound = λ x r v a.
                       omega (
                         arith,
-                        q .bound (timesOf t k z x r v a) (times-solve t k z x r v a),
-                        times-now t k z x r v a i w,
-                        times-start t k z x r v a,
+                        q .bound (timesOf P t k z enough x r v a) (times-solve P t k z enough x r v a),
+                        times-now P t k z enough x r v a i w,
+                        times-start P t k z enough x r v a,
                       );
                 }
 
         unbounded : none ≤ at l i → Unbounded P n σ D i
         unbounded h T =
-            let q = none-found P cs (all-fit t k z) (all-weights t k z) l tops e solves i h T in
-            run-of t k z (λ x. T ≤ x i) (q .0) (q .1) (omega (arith, q .2))
+            let q = none-found N cs (all-fit P t k z enough) (all-weights P t k z enough) l tops e solves i h T in
+            run-of P t k z enough (λ x. T ≤ x i) (q .0) (q .1) (omega (arith, q .2))
 
         -- The two numbers tell the span.
         pub span-found : Spans P n σ D i (spanOf (u i) (at l i))

@@ -14,7 +14,7 @@ use Rattle.runs.specs.Satisfies.{Satisfies}
 use Rattle.runs.specs.Rows.{Row, rowAt, row-now, row-past, run-row, run-satisfies}
 use Rattle.runs.specs.Start.{log-in-zero}
 use Rattle.constraints.specs.Rounds.{length-rounds}
-use Rattle.constraints.specs.Sized.{Sized, partsOf, roundsOf}
+use Rattle.constraints.specs.Sized.{Sized, momentsOf, roundsOf}
 use Rattle.sides.specs.Covers.{covers-satisfies}
 use Rattle.paths.specs.Constraint.{Constraint, All, Fits}
 use Rattle.checks.specs.InParts.{edge, satisfies-parts}
@@ -22,12 +22,12 @@ use Rattle.checks.specs.Checks.{slight-fits, slight-gains}
 use Rattle.relaxing.specs.Rows.{Rows, sweep, constraintsOf}
 use Rattle.plan.specs.Asked.{Asked, sized-asked, asked-places}
 use Rattle.plan.specs.Earliest.{solution-now, solution-past}
-use Rattle.plan.specs.Rows.{rowsOf, tightest, rows-same, rows-cover, rows-sound}
+use Rattle.plan.specs.Rows.{rowsOf, tightest, Parts, rows-same, rows-cover, rows-sound}
 use Rattle.lowering.specs.Bounded.{unit}
 use Rattle.lowering.specs.Gap.{Weights}
 use Rattle.spans.specs.Span.{With}
 
-module _ (t : Table) (k : ℕ) (z : Sized t k) where
+module _ (P : ℕ) (t : Table) (k : ℕ) (z : Sized t k) (enough : Parts P t LogIn k) where
   abbrev K : ℕ
   K = k * t .steps
 
@@ -40,11 +40,11 @@ module _ (t : Table) (k : ℕ) (z : Sized t k) where
   abbrev D : Starts
   D = startsOf LogIn
 
-  abbrev P : ℕ
-  P = partsOf t k
+  abbrev N : ℕ
+  N = momentsOf t k
 
   abbrev R : Rows
-  R = rowsOf t LogIn k
+  R = rowsOf P t LogIn k
 
   abbrev cs : List Constraint
   cs = constraintsOf R
@@ -53,31 +53,31 @@ module _ (t : Table) (k : ℕ) (z : Sized t k) where
   asked = sized-asked t LogIn k z
 
   -- ---- the constraints
-  pub all-fit : Fits P cs
+  pub all-fit : Fits N cs
   unfolding constraintsOf
-  all-fit = slight-fits P (sweep R) (rows-sound t LogIn k z .slight)
+  all-fit = slight-fits N (sweep R) (rows-sound P t LogIn k z enough .slight)
 
   pub all-weights : Weights unit cs
   unfolding constraintsOf
   all-weights =
       record {
-        gain = λ c m. omega (arith, slight-gains P (sweep R) (rows-sound t LogIn k z .slight) c m);
+        gain = λ c m. omega (arith, slight-gains N (sweep R) (rows-sound P t LogIn k z enough .slight) c m);
         loss = λ c m. loss c (Memᴰ·of-map edge (sweep R) m);
       }
     where
       loss : (c : Constraint) → (d : Demand) × List·Memᴰ d (sweep R) × (edge d ≡ c) → c .loss ≤ unit
-      loss c d = rw (← d .2) (omega (arith, rows-sound t LogIn k z .slight (d .0) (d .1) .loss))
+      loss c d = rw (← d .2) (omega (arith, rows-sound P t LogIn k z enough .slight (d .0) (d .1) .loss))
 
   -- ---- solutions
   unfoldable satisfied : (y : ℕ → ℕ) → All cs y → Satisfies P y (demands n σ D)
   satisfied y h =
-      covers-satisfies (rows-cover t LogIn k z) P y (omega arith) .0
-      (satisfies-parts P y (tightest t LogIn k) .1 (subst (λ l. All l y) (rows-same t LogIn k z) h))
+      covers-satisfies (rows-cover P t LogIn k z enough) P y (enough .enough .0) .0
+      (satisfies-parts P y (tightest t LogIn k) .1 (subst (λ l. All l y) (rows-same P t LogIn k z enough) h))
 
   solved : (y : ℕ → ℕ) → Satisfies P y (demands n σ D) → All cs y
   solved y h =
-      subst (λ l. All l y) (sym (rows-same t LogIn k z))
-      (satisfies-parts P y (tightest t LogIn k) .0 (covers-satisfies (rows-cover t LogIn k z) P y (omega arith) .1 h))
+      subst (λ l. All l y) (sym (rows-same P t LogIn k z enough))
+      (satisfies-parts P y (tightest t LogIn k) .0 (covers-satisfies (rows-cover P t LogIn k z enough) P y (enough .enough .0) .1 h))
 
   -- no step is before the start, and the last resets before the start are not after it
   pub all-now : (y : ℕ → ℕ) → All cs y → (i : ℕ) → i ≤ K → y 0 ≤ y i

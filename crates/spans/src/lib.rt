@@ -12,12 +12,12 @@ use spaces::solve_here;
 use table::Table;
 ghost use mathlib.Core.Path.{_≡_};
 ghost use mathlib.Core.Bool.{true};
-ghost use Prim.Native.Nat.{_≤_};
+ghost use Prim.Native.Nat.{_*_, _≤_};
 ghost use lib.ListN.{length};
 ghost use Rattle.runs.specs.declared.Start.the-variants.{LogIn};
-ghost use Rattle.constraints.specs.Sized.{Sized, partsOf};
+ghost use Rattle.constraints.specs.Sized.{Sized, momentsOf, partsOf};
 ghost use Rattle.solving.specs.Solve.{Roomy};
-ghost use Rattle.plan.specs.Rows.{rowsOf, Computed};
+ghost use Rattle.plan.specs.Rows.{Computed};
 ghost use Rattle.spans.specs.Exact.{Plannable, Bounding, Exact};
 
 // The last moments of the steps of k rounds that have a plan: that of step i, or NONE, at place i. The rows are those of the table.
@@ -30,7 +30,7 @@ fn last_moments(
     far: &[usize],
     late: &mut [u64],
 ) -> bool
-    requires { ⌜ Sized t k × Plannable t k × Computed t k (now low) (now up) (now leads) (now far) × (partsOf t k ≤ length (now late)) ⌝ }
+    requires { ⌜ Sized t k × Plannable t k × Computed (partsOf t k) t (now low) (now up) (now leads) (now far) × (momentsOf t k ≤ length (now late)) ⌝ }
     ensures { λ r. ⌜ (r ≡ true) × Bounding t k (now (late .exit)) ⌝ }
 {
     let total = k * t.steps;
@@ -44,7 +44,7 @@ fn last_moments(
 // Whether a run of k rounds exists. Then the first moments of the steps stand in the first places of `firsts`, and the last ones in
 // those of `lasts` from place 1 on. `starts` is room for the plan. The constants are scaled once, for the plan and for the last moments.
 pub fn exact(t: Table, k: usize, firsts: &mut [u64], starts: &mut [u64], lasts: &mut [u64]) -> bool
-    requires { ⌜ Sized t k × Roomy (rowsOf t LogIn k) (now firsts) (now starts) (now lasts) ⌝ }
+    requires { ⌜ Sized t k × Roomy (k * t .steps) (t .clocks) (now firsts) (now starts) (now lasts) ⌝ }
     ensures { λ r. ⌜ Exact t k (now (firsts .exit)) (now (lasts .exit)) r ⌝ }
 {
     let total = k * t.steps;

@@ -2,11 +2,11 @@
 use mathlib.Core.Path.{_≡_, refl, sym, ap, subst, _∙_}
 use mathlib.Core.Logic.{_⊎_, inl, inr, ⊎-elim, _≢_}
 use mathlib.Core.Bool.{Bool, true, false, cond}
-use mathlib.Core.List.{List, [], _∷_, _++_, map, List·Memᴰ}
+use mathlib.Core.List.{List, [], _∷_, _++_, map, List·Memᴰ, List·Memᴰ·head, Memᴰ·append-left, Memᴰ·append-right}
 use mathlib.Core.List.{List·Memᴰ·not-nil, List·Memᴰ·cases-cons, List·Memᴰ·append-cases}
 use Prim.Native.Nat.{ℕ, zero, suc, _+_, _*_, _-_, _%_, _≤_, _<_}
 use native.Mathlib.Omega.{arith}
-use native.Mathlib.Decide.{decLe}
+use native.Mathlib.Decide.{ℕ-discrete, decLe}
 use lib.Dec.{eqb, eqb·suc-zero}
 use lib.ListN.{getD}
 use Rattle.runs.specs.declared.Demand.{Demand}
@@ -14,7 +14,7 @@ use Rattle.runs.specs.Demand.{plus, Starts, moment, moved, startDemands, anySta
 use Rattle.runs.specs.Start.{Upper}
 use Rattle.runs.specs.Tools.{Every, every-nil, every-append, every-map}
 use Rattle.sides.specs.Sides.{Side, none}
-use Rattle.sides.specs.Tight.{keyDemand, keyDemands, key-demands-listed}
+use Rattle.sides.specs.Tight.{keyDemand, keyDemands, key-demands-some, key-demands-listed}
 use Rattle.last_resets.specs.Distance.{lastOf, reached, reached-yes, reached-no}
 use Rattle.sweeps.specs.Order.{cell, sideOf, forthAt, forthOf, partnersFrom}
 
@@ -71,6 +71,25 @@ side-clock b keys far K s i j (suc m) d k =
     (λ h. let r = side-clock b keys far K s i (suc j) m d h in
     record { clock = r .clock; first = omega (arith, r .first); last = omega (arith, r .last); key = r .key; is = r .is })
     (List·Memᴰ·append-cases (keyDemands b (getD keys (cell s j) 0) (lastOf (getD far (cell s j) 0) K i j) (suc i)) k)
+
+-- and every clock with a key has its demand
+pub clock-side : (b : Side) (keys far : List ℕ) (K s i j m c : ℕ) → j ≤ c → c < j + m → getD keys (cell s c) 0 < none
+    → List·Memᴰ (keyDemand b (getD keys (cell s c) 0) (lastOf (getD far (cell s c) 0) K i c) (suc i)) (sideOf b keys far K s i j m)
+unfolding sideOf
+clock-side b keys far K s i j zero c a l k = absurd (omega arith)
+clock-side b keys far K s i j (suc m) c a l k = go (clock-side b keys far K s i (suc j) m c) (ℕ-discrete c j)
+  where
+    go : (suc j ≤ c → c < suc j + m → getD keys (cell s c) 0 < none
+        → List·Memᴰ (keyDemand b (getD keys (cell s c) 0) (lastOf (getD far (cell s c) 0) K i c) (suc i)) (sideOf b keys far K s i (suc j) m))
+        → Dec (c ≡ j)
+        → List·Memᴰ (keyDemand b (getD keys (cell s c) 0) (lastOf (getD far (cell s c) 0) K i c) (suc i))
+        (keyDemands b (getD keys (cell s j) 0) (lastOf (getD far (cell s j) 0) K i j) (suc i) ++ sideOf b keys far K s i (suc j) m)
+    go h (yes e) =
+        let x : List·Memᴰ (keyDemand b (getD keys (cell s j) 0) (lastOf (getD far (cell s j) 0) K i j) (suc i))
+        (keyDemands b (getD keys (cell s j) 0) (lastOf (getD far (cell s j) 0) K i j) (suc i)) =
+        rw (key-demands-some b (getD keys (cell s j) 0) (lastOf (getD far (cell s j) 0) K i j) (suc i) (rw e at k)) (List·Memᴰ·head refl) in
+        rw e (Memᴰ·append-left (sideOf b keys far K s i (suc j) m) x)
+    go h (no e) = Memᴰ·append-right (keyDemands b (getD keys (cell s j) 0) (lastOf (getD far (cell s j) 0) K i j) (suc i)) (h (omega arith) (omega arith) k)
 
 pub side-ends : (b : Side) (keys far : List ℕ) (K s i j m : ℕ) → 0 < j → (d : Demand)
     → List·Memᴰ d (sideOf b keys far K s i j m) → EndsAt b K i d

@@ -14,7 +14,8 @@ use Rattle.asking.specs.Rounds.{clocksOf, roundsIn}
 use Rattle.window.specs.declared.Span.{Span}
 use Rattle.window.specs.declared.Choice.{Choice}
 use Rattle.window.specs.Widest.{Chosen}
-use Rattle.windows.specs.Answer.{partsIn, Spanned}
+use Rattle.plan.specs.Planned.{partsIn}
+use Rattle.windows.specs.Answer.{Spanned}
 use Rattle.widest.specs.declared.Answer.{Answer}
 use Rattle.widest.specs.declared.Answer.the-variants as answer
 

@@ -9,7 +9,7 @@ use Rattle.asking.specs.declared.Admission.the-variants as admission
 use Rattle.asking.specs.Rounds.{clocksOf, roundsIn}
 use Rattle.window.specs.declared.Choice.{Choice}
 use Rattle.window.specs.Widest.{chosen-unique, chosen-same}
-use Rattle.windows.specs.Answer.{partsIn}
+use Rattle.plan.specs.Planned.{partsIn}
 use Rattle.windows.specs.Unique.{spanned-unique}
 use Rattle.widest.specs.declared.Answer.{Answer}
 use Rattle.widest.specs.declared.Answer.the-variants as answer

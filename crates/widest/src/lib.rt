@@ -7,10 +7,10 @@ use table::Read;
 use table::Refusal;
 use table::Table;
 use window::Choice;
+ghost use Prim.Native.Nat.{_*_};
 ghost use Rattle.runs.specs.declared.Start.the-variants.{LogIn};
 ghost use Rattle.constraints.specs.Sized.{Sized, Tabled, roundsOf};
 ghost use Rattle.solving.specs.Solve.{Roomy};
-ghost use Rattle.plan.specs.Rows.{rowsOf};
 ghost use Rattle.widest.specs.Answer.{admitOf, Answered, Meets, Answers};
 
 // The answer to the question: the two times, or that no window is closed; or why it is refused.
@@ -27,7 +27,7 @@ fn widest_within(
     starts: &mut [u64],
     lasts: &mut [u64],
 ) -> Answer
-    requires { ⌜ Sized t k × Roomy (rowsOf t LogIn k) (now firsts) (now starts) (now lasts) ⌝ }
+    requires { ⌜ Sized t k × Roomy (k * t .steps) (t .clocks) (now firsts) (now starts) (now lasts) ⌝ }
     ensures { λ a. ⌜ Answered (t .clocks) (roundsOf t k) a ⌝ }
 {
     let total = k * t.steps;

@@ -1,7 +1,7 @@
 -- What the panel shows of k rounds from log-in: for each step a mark in one room, and two times side by side in another.
 use mathlib.Core.Path.{_≡_}
 use mathlib.Core.List.{List}
-use Prim.Native.Nat.{ℕ, suc, _+_, _*_, _<_}
+use Prim.Native.Nat.{ℕ, suc, _*_, _<_}
 use lib.ListN.{length}
 use lib.Ieee.{Float}
 use Rattle.table.specs.Step.{Step}
@@ -10,6 +10,7 @@ use Rattle.runs.specs.Demand.{startsOf}
 use Rattle.asking.specs.declared.Admission.{Admission}
 use Rattle.asking.specs.declared.Admission.the-variants as admission
 use Rattle.asking.specs.Rounds.{clocksOf, roundsIn}
+use Rattle.plan.specs.Planned.{partsIn}
 use Rattle.seconds.specs.Seconds.{secondsOf, Nearest}
 use Rattle.window.specs.declared.Span.{Span}
 use Rattle.window.specs.declared.Span.the-variants.{Closed, Open, Absent}
@@ -27,10 +28,6 @@ pub record Rooms : Type 0 where
 
 abbrev pub rooms : List ℕ → List Float → Rooms
 rooms m t = record { marks = m; times = t }
-
--- the parts to a tick for K steps and n clocks: those of the plan
-abbrev pub partsIn : ℕ → List Step → ℕ
-partsIn n σ = length σ + n + 1
 
 -- No binary64 number is nearer to a time shown, in exact seconds, and of two as near it is the one with an even last digit.
 abbrev pub Nearests : ℕ → Span → Type 0

@@ -11,9 +11,8 @@ use Rattle.table.specs.declared.Table.{Table}
 use Rattle.runs.specs.declared.Start.the-variants.{LogIn}
 use Rattle.runs.specs.Demand.{startsOf, Exists}
 use Rattle.constraints.specs.Rounds.{length-rounds}
-use Rattle.constraints.specs.Sized.{Sized, partsOf, roundsOf, sized-parts}
+use Rattle.constraints.specs.Sized.{Sized, partsOf, roundsOf, sized-moments}
 use Rattle.solving.specs.Solve.{Roomy}
-use Rattle.plan.specs.Rows.{rowsOf}
 use Rattle.seconds.specs.Rounding.{seconds-nearest}
 use Rattle.window.specs.declared.Span.{Span}
 use Rattle.window.specs.declared.Span.the-variants.{Closed, Open, Absent}
@@ -24,7 +23,8 @@ use Rattle.window.specs.Spans.{near-span}
 use Rattle.showing.specs.Shown.{marked, timed, spanAt, windowAt, Rows}
 use Rattle.spans.specs.Span.{Spans}
 use Rattle.spans.specs.Exact.{Told}
-use Rattle.windows.specs.Answer.{rooms, partsIn, Nearests, Spanned, Shows}
+use Rattle.plan.specs.Planned.{partsIn}
+use Rattle.windows.specs.Answer.{rooms, Nearests, Spanned, Shows}
 
 -- near moments are shown as the nearest numbers
 pub near-nearest : (P : ℕ) → 0 < P → (s : Span) → Near s → Nearests P s
@@ -68,7 +68,7 @@ module _ (t : Table) (k : ℕ) (z : Sized t k) where
       }
 
   -- ---- rows of first and last moments
-  module _ (firsts starts lasts firsts′ lasts′ : List ℕ) (room : Roomy (rowsOf t LogIn k) firsts starts lasts)
+  module _ (firsts starts lasts firsts′ lasts′ : List ℕ) (room : Roomy (k * t .steps) (t .clocks) firsts starts lasts)
       (a : length firsts′ ≡ length firsts) (b : length lasts′ ≡ length lasts) (h : Told t k firsts′ lasts′) (P : ℕ) (q : P ≡ partsOf t k) where
     -- the row of last moments from place 1 on
     behind-at : (i : ℕ) → i < K → getD (behind lasts′) i 0 ≡ getD lasts′ (suc i) 0
@@ -84,7 +84,7 @@ module _ (t : Table) (k : ℕ) (z : Sized t k) where
           last-row = omega (arith, length-take (length lasts′ - 1) (drop 1 lasts′), length-drop 1 lasts′, b, room .loop);
           firsts-near = h .near;
           some-parts = omega (arith, q);
-          few-parts = omega (arith, q, sized-parts t k z);
+          few-parts = omega (arith, q, sized-moments t k z);
         }
 
     abbrev spans : ℕ → Span
@@ -95,7 +95,7 @@ module _ (t : Table) (k : ℕ) (z : Sized t k) where
         record {
           each = λ i l.
               let w : i < K = omega (arith, same) in
-              subst (λ N. Spans N n σ (startsOf LogIn) (suc i) (spans i)) (sym parts-same)
+              subst (λ Q. Spans Q n σ (startsOf LogIn) (suc i) (spans i)) (sym parts-same)
               (subst (λ x. Spans (partsOf t k) n σ (startsOf LogIn) (suc i) (spanOf (getD firsts′ i 0) x)) (sym (behind-at i w)) (h .spans i w));
           nearest = λ i l.
               near-nearest (partsIn n σ) (omega arith) (spans i)
@@ -110,8 +110,8 @@ module _ (t : Table) (k : ℕ) (z : Sized t k) where
           number = sym same;
           spans = spans;
           spanned = told-spanned;
-          marks = e ∙ ap (λ N. marked (windowAt N firsts′ (behind lasts′)) K m) parts ∙ ap (λ x. marked shown x m) (sym same);
-          times = f ∙ ap (λ N. timed (windowAt N firsts′ (behind lasts′)) K s) parts ∙ ap (λ x. timed shown x s) (sym same);
+          marks = e ∙ ap (λ Q. marked (windowAt Q firsts′ (behind lasts′)) K m) parts ∙ ap (λ x. marked shown x m) (sym same);
+          times = f ∙ ap (λ Q. timed (windowAt Q firsts′ (behind lasts′)) K s) parts ∙ ap (λ x. timed shown x s) (sym same);
         }
       where
         parts : P ≡ partsIn n σ

@@ -14,10 +14,11 @@ use Rattle.window.specs.declared.Span.{Span}
 use Rattle.window.specs.Window.{windowOf}
 use Rattle.showing.specs.Rooms.{marked-same, timed-same}
 use Rattle.spans.specs.Unique.{span-unique}
+use Rattle.plan.specs.Planned.{partsIn}
 use Rattle.windows.specs.declared.Panel.{Panel}
 use Rattle.windows.specs.declared.Panel.the-variants as panel
 use Rattle.windows.specs.Admit.{askingOf}
-use Rattle.windows.specs.Answer.{Rooms, partsIn, Spanned, Shows, Meets, Answers}
+use Rattle.windows.specs.Answer.{Rooms, Spanned, Shows, Meets, Answers}
 
 module _ (n : ℕ) (σ : List Step) where
   pub spanned-unique : (a b : ℕ → Span) → Spanned n σ a → Spanned n σ b → (i : ℕ) → i < length σ → a i ≡ b i

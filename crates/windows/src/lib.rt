@@ -16,7 +16,6 @@ ghost use lib.ListN.{length};
 ghost use Rattle.constraints.specs.Sized.{Sized, Tabled, roundsOf};
 ghost use Rattle.runs.specs.declared.Start.the-variants.{LogIn};
 ghost use Rattle.solving.specs.Solve.{Roomy};
-ghost use Rattle.plan.specs.Rows.{rowsOf};
 ghost use Rattle.showing.specs.Shown.{Room};
 ghost use Rattle.windows.specs.Admit.{admitOf};
 ghost use Rattle.windows.specs.Answer.{rooms, Answered, Meets, Answers};
@@ -54,7 +53,7 @@ fn show_within(
     marks: &mut [u8],
     times: &mut [f64],
 ) -> Panel
-    requires { ⌜ Sized t k × Roomy (rowsOf t LogIn k) (now firsts) (now starts) (now lasts)
+    requires { ⌜ Sized t k × Roomy (k * t .steps) (t .clocks) (now firsts) (now starts) (now lasts)
         × Room (k * t .steps) (length (now marks)) (length (now times)) ⌝ }
     ensures { λ a. ⌜ Answered (t .clocks) (roundsOf t k)
         (rooms (now (marks .entry)) (now (times .entry))) (rooms (now (marks .exit)) (now (times .exit))) a ⌝ }

@@ -3,11 +3,11 @@ use mathlib.Core.Path.{_≡_, refl, sym, ap, _∙_}
 use mathlib.Core.List.{List}
 use Prim.Native.Nat.{ℕ}
 use lib.ListN.{length}
-use Rattle.constraints.specs.Sized.{sized-parts}
+use Rattle.constraints.specs.Sized.{partsOf, sized-moments}
 use Rattle.sides.specs.Keys.{Numbers, keys-size}
 use Rattle.leads.specs.Leads.{leads-size}
 use Rattle.last_resets.specs.Distance.{distances-size}
-use Rattle.plan.specs.Rows.{scaled-numbers, Computed, rows-computed}
+use Rattle.plan.specs.Rows.{parts-moments, scaled-numbers, Computed, rows-computed}
 use Rattle.plan.specs.Found.{rows-ready, rows-answered}
 use borrow.Author.Needs.{needs}
 use native.Mathlib.Omega.{arith}
@@ -24,11 +24,11 @@ add-parts-2 : tie.Need-add-parts-2
 add-parts-2 c = search needs
 
 put-scaled-requires : tie.Need-put-scaled-requires
-put-scaled-requires c κs = let s = c .before .before .before .before in (s .pre .0 .good, sized-parts _ _ (s .pre .0), refl)
+put-scaled-requires c κs = let s = c .before .before .before .before in (s .pre .0 .good, sized-moments _ _ (s .pre .0), refl)
 
 -- the constants have their numbers
 numbers : (h : tie.After-put-scaled) → Numbers (h .before .before .before .before .before .args .t1) (h .put-scaled .last .1 .1 .0)
-numbers h = scaled-numbers _ _ (h .before .before .before .before .before .pre .0) _ refl _ (h .put-scaled .ensures)
+numbers h = scaled-numbers _ _ _ (h .put-scaled .ensures) _ (h .before .before .before .before .before .pre .0) (omega arith)
 
 put-keys-requires : tie.Need-put-keys-requires
 put-keys-requires c κs = let h = c .before .before in (h .before .before .before .before .before .pre .0 .good, numbers h, refl)
@@ -60,9 +60,9 @@ abbrev far-row : tie.After-put-distances → List ℕ
 far-row d = d .put-distances .last .1 .1 .0
 
 rows : (d : tie.After-put-distances)
-    → Computed (entry d .args .t1) (entry d .args .k) (low-row d) (up-row d) (led-row d) (far-row d)
+    → Computed (partsOf (entry d .args .t1) (entry d .args .k)) (entry d .args .t1) (low-row d) (up-row d) (led-row d) (far-row d)
 rows d =
-    rows-computed _ _ (entry d .pre .0) _ refl _ (d .before .before .before .before .before .before .before .before .before .before .before .before .before .put-scaled .ensures) _ _ _ _
+    rows-computed _ _ _ (d .before .before .before .before .before .before .before .before .before .before .before .before .before .put-scaled .ensures) _ _ _ _
     (d .before .before .before .before .before .before .before .before .before .before .put-keys .ensures)
     (d .before .before .before .before .before .before .before .put-keys2 .ensures)
     (d .before .before .before .before .put-leads .ensures)
@@ -96,7 +96,7 @@ solve-here-requires : tie.Need-solve-here-requires
 solve-here-requires c κs =
     let d = c .before .before .before .before .before .before .before in
     let s = entry d in
-    rows-ready _ _ _ (s .pre .0) _ _ _ _ (rows d) _ _ _ (s .pre .1)
+    (rows-ready _ _ _ _ (s .pre .0) (parts-moments _ _ _) _ _ _ _ (rows d), s .pre .1)
 
 told-requires : tie.Need-told-requires
 told-requires c κs = search needs
@@ -115,7 +115,7 @@ returns c =
     let h = c .before .before .before .before .before .before .before in
     let d = h .before .before .before .before .before .before .before .before in
     let s = entry d in
-    rows-answered _ _ _ (s .pre .0) _ _ _ _ (rows d) _ _ _ (s .pre .1) _ _ _ (h .solve-here .result) _ _ (h .solve-here .ensures) refl
+    rows-answered _ _ _ _ (s .pre .0) (parts-moments _ _ _) _ _ _ _ (rows d) _ _ _ _ _ _ (s .pre .1) (h .solve-here .result) _ (h .solve-here .ensures) refl
     (c .told .ensures)
 
 pub plan-rounds-spec : {M : Type 1} → statement M

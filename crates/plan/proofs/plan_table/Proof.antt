@@ -16,7 +16,7 @@ enum-told c = search needs
 
 plan-rounds-requires : tie.Need-plan-rounds-requires
 plan-rounds-requires c κs =
-    admit-sized _ _ _ _ (c .before .before .before .before .before .before .before .before .before .pre) (sym (c .before .before .before .before .before .admit .ensures) ∙ c .before .before .before .enum-told .given .1)
+    admit-sized _ _ _ (c .before .before .before .before .before .before .before .before .before .pre) (sym (c .before .before .before .before .before .admit .ensures) ∙ c .before .before .before .enum-told .given .1)
 
 returns : tie.Need-returns
 returns c =

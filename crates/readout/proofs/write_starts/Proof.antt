@@ -1,40 +1,31 @@
 -- The times begin with that of the start and are lowered; then the starts are told.
-use mathlib.Core.Path.{refl}
+use mathlib.Core.Path.{sym}
 use borrow.Author.Needs.{needs}
 use borrow.Author.Tests.{not-true}
 use native.Mathlib.Omega.{arith}
+use native.Mathlib.Nat.{mod-self}
 use Rattle.readout.specs.Late.{began-able, lowered-able, told-plain, told-led}
 use Rattle.readout.proofs.write_starts.Statement.{statement}
 use Rattle.readout.proofs.write_starts.Tie as tie
 
--- ---- places: where it began, the times set, and how many steps are looked at
+-- ---- places: where it began, and the times set
 abbrev start : tie.After-begin → tie.Start
 start c = c .before .before .before .before .before .before .before .before
 
-abbrev begun : tie.After-reach → tie.After-begin
-begun c = c .before .before .before
-
-abbrev reached : tie.After-descend → tie.After-reach
-reached c = c .before .before
+abbrev begun : tie.After-descend → tie.After-begin
+begun c = c .before .before .before .before
 
 begin-requires : tie.Need-begin-requires
 begin-requires c κs = let r = c .before .before .before .before .before .before .before .pre in omega (arith, r .times)
 
-reach-requires : tie.Need-reach-requires
-reach-requires c κs = let r = start (c .before .before) .pre in (r .below .keyed, r .below .reached, r .below .steps)
-
-rem-first : tie.Need-rem-first
-rem-first c = let r = start (begun c) .pre in omega (arith, r .below .some)
-
 descend-requires : tie.Need-descend-requires
 descend-requires c κs =
-    let f = c .before in
-    let b = begun f in
+    let b = c .before .before .before in
     let r = start b .pre in
-    (r .below, f .reach .ensures .few, refl, began-able _ _ _ _ _ _ _ _ _ r _ (b .begin .ensures))
+    (r .below, r .round, sym (mod-self _), began-able _ _ _ _ _ _ _ _ _ r _ (b .begin .ensures))
 
 any-leads-requires : tie.Need-any-leads-requires
-any-leads-requires c κs = let r = start (begun (reached (c .before .before))) .pre in (r .led .size, omega (arith, r .below .steps))
+any-leads-requires c κs = let r = start (begun (c .before .before)) .pre in (r .led .size, omega (arith, r .below .steps))
 
 tell-requires : tie.Need-tell-requires
 tell-requires c κs = search needs
@@ -48,18 +39,16 @@ same-length-2 c = search needs
 returns : tie.Need-returns
 returns c =
     let d = c .before .before .before .before .before .before .before .before .before in
-    let f = reached d in
-    let b = begun f in
-    told-plain _ _ _ _ _ _ _ _ _ (start b .pre) _ (b .begin .ensures) _ _ _ (f .reach .ensures) (d .descend .ensures) _ (c .before .before .before .before .before .before .any-leads .ensures)
+    let b = begun d in
+    told-plain _ _ _ _ _ _ _ _ _ (start b .pre) _ (b .begin .ensures) _ _ (d .descend .ensures) _ (c .before .before .before .before .before .before .any-leads .ensures)
     (not-true _ (c .before .before .before .before .before .if1 .taken)) _ (c .before .before .tell .ensures)
 
 lower-led-requires : tie.Need-lower-led-requires
 lower-led-requires c κs =
     let d = c .before .before .before .before .before in
-    let f = reached d in
-    let b = begun f in
+    let b = begun d in
     let r = start b .pre in
-    (r .below, r .above, r .led, r .whole, lowered-able _ _ _ _ _ _ _ _ _ r _ (b .begin .ensures) _ _ _ (f .reach .ensures) (d .descend .ensures))
+    (r .below, r .above, r .led, r .whole, lowered-able _ _ _ _ _ _ _ _ _ r _ (b .begin .ensures) _ _ (d .descend .ensures))
 
 tell-requires-2 : tie.Need-tell-requires-2
 tell-requires-2 c κs = search needs
@@ -73,9 +62,8 @@ same-length-4 c = search needs
 returns-2 : tie.Need-returns-2
 returns-2 c =
     let d = c .before .before .before .before .before .before .before .before .before .before .before .before .before in
-    let f = reached d in
-    let b = begun f in
-    told-led _ _ _ _ _ _ _ _ _ (start b .pre) _ (b .begin .ensures) _ _ _ (f .reach .ensures) (d .descend .ensures) _ _ (c .before .before .before .before .before .before .before .lower-led .ensures)
+    let b = begun d in
+    told-led _ _ _ _ _ _ _ _ _ (start b .pre) _ (b .begin .ensures) _ _ (d .descend .ensures) _ _ (c .before .before .before .before .before .before .before .lower-led .ensures)
     (c .before .before .tell2 .ensures)
 
 pub write-starts-spec : {M : Type 1} → statement M
@@ -83,8 +71,6 @@ write-starts-spec =
     tie.close
     (tie.spec
     begin-requires
-    reach-requires
-    rem-first
     descend-requires
     any-leads-requires
     tell-requires

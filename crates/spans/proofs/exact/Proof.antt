@@ -3,11 +3,11 @@ use mathlib.Core.Path.{_≡_, refl, sym, ap, _∙_}
 use mathlib.Core.List.{List}
 use Prim.Native.Nat.{ℕ}
 use lib.ListN.{length}
-use Rattle.constraints.specs.Sized.{sized-parts}
+use Rattle.constraints.specs.Sized.{partsOf, sized-moments}
 use Rattle.sides.specs.Keys.{Numbers, keys-size}
 use Rattle.leads.specs.Leads.{leads-size}
 use Rattle.last_resets.specs.Distance.{distances-size}
-use Rattle.plan.specs.Rows.{scaled-numbers, Computed, rows-computed}
+use Rattle.plan.specs.Rows.{parts-moments, scaled-numbers, Computed, rows-computed}
 use Rattle.plan.specs.Found.{rows-ready, rows-answered}
 use Rattle.spans.specs.Exact.{plan-plannable, plan-room, plan-exact, loop-exact}
 use borrow.Author.Needs.{needs}
@@ -25,11 +25,11 @@ add-put-scaled-2 : tie.Need-add-put-scaled-2
 add-put-scaled-2 c = search needs
 
 put-scaled-requires : tie.Need-put-scaled-requires
-put-scaled-requires c κs = let s = c .before .before .before .before in (s .pre .0 .good, sized-parts _ _ (s .pre .0), refl)
+put-scaled-requires c κs = let s = c .before .before .before .before in (s .pre .0 .good, sized-moments _ _ (s .pre .0), refl)
 
 -- the constants have their numbers
 numbers : (h : tie.After-put-scaled) → Numbers (h .before .before .before .before .before .args .t1) (h .put-scaled .last .1 .1 .0)
-numbers h = scaled-numbers _ _ (h .before .before .before .before .before .pre .0) _ refl _ (h .put-scaled .ensures)
+numbers h = scaled-numbers _ _ _ (h .put-scaled .ensures) _ (h .before .before .before .before .before .pre .0) (omega arith)
 
 put-keys-requires : tie.Need-put-keys-requires
 put-keys-requires c κs = let h = c .before .before in (h .before .before .before .before .before .pre .0 .good, numbers h, refl)
@@ -61,9 +61,9 @@ abbrev far-row : tie.After-put-distances → List ℕ
 far-row d = d .put-distances .last .1 .1 .0
 
 rows : (d : tie.After-put-distances)
-    → Computed (entry d .args .t1) (entry d .args .k) (low-row d) (up-row d) (led-row d) (far-row d)
+    → Computed (partsOf (entry d .args .t1) (entry d .args .k)) (entry d .args .t1) (low-row d) (up-row d) (led-row d) (far-row d)
 rows d =
-    rows-computed _ _ (entry d .pre .0) _ refl _ (d .before .before .before .before .before .before .before .before .before .before .before .before .before .put-scaled .ensures) _ _ _ _
+    rows-computed _ _ _ (d .before .before .before .before .before .before .before .before .before .before .before .before .before .put-scaled .ensures) _ _ _ _
     (d .before .before .before .before .before .before .before .before .before .before .put-keys .ensures)
     (d .before .before .before .before .before .before .before .put-keys2 .ensures)
     (d .before .before .before .before .put-leads .ensures)
@@ -95,7 +95,9 @@ slice-aggregate-solve-here-4 c = far-size (c .before .before .before .before)
 
 solve-here-requires : tie.Need-solve-here-requires
 solve-here-requires c κs =
-    let d = c .before .before .before .before .before .before .before in rows-ready _ _ _ (entry d .pre .0) _ _ _ _ (rows d) _ _ _ (entry d .pre .1)
+    let d = c .before .before .before .before .before .before .before in
+    let s = entry d in
+    (rows-ready _ _ _ _ (s .pre .0) (parts-moments _ _ _) _ _ _ _ (rows d), s .pre .1)
 
 enum-told : tie.Need-enum-told
 enum-told c = search needs
@@ -117,7 +119,7 @@ last-moments-requires c κs =
     let h = c .before .before .before .before .before .before .before .before .before .before .before .before .before in
     let d = h .before .before .before .before .before .before .before .before in
     let z = entry d .pre .0 in
-    let a = rows-answered _ _ _ z _ _ _ _ (rows d) _ _ _ (entry d .pre .1) _ _ _ (h .solve-here .result) _ _ (h .solve-here .ensures) refl refl in
+    let a = rows-answered _ _ _ _ z (parts-moments _ _ _) _ _ _ _ (rows d) _ _ _ _ _ _ (entry d .pre .1) (h .solve-here .result) _ (h .solve-here .ensures) refl refl in
     let e = c .before .before .before .before .before .enum-told .given .1 in
     (z, plan-plannable _ _ z _ _ _ a e, rows d, plan-room _ _ z _ _ _ a e (entry d .pre .1 .loop))
 
@@ -138,7 +140,7 @@ returns c =
     let h = c .before .before .before .before .before .before .before .before .before .before .before .before .before .before .before .before in
     let d = h .before .before .before .before .before .before .before .before in
     let z = entry d .pre .0 in
-    let a = rows-answered _ _ _ z _ _ _ _ (rows d) _ _ _ (entry d .pre .1) _ _ _ (h .solve-here .result) _ _ (h .solve-here .ensures) refl refl in
+    let a = rows-answered _ _ _ _ z (parts-moments _ _ _) _ _ _ _ (rows d) _ _ _ _ _ _ (entry d .pre .1) (h .solve-here .result) _ (h .solve-here .ensures) refl refl in
     plan-exact _ _ z _ _ _ a (c .before .before .before .before .before .before .before .before .enum-told .given .1) _ _ (c .before .before .last-moments .ensures)
 
 same-length-4 : tie.Need-same-length-4
@@ -155,7 +157,7 @@ returns-2 c =
     let h = c .before .before .before .before .before .before .before .before in
     let d = h .before .before .before .before .before .before .before .before in
     let z = entry d .pre .0 in
-    let a = rows-answered _ _ _ z _ _ _ _ (rows d) _ _ _ (entry d .pre .1) _ _ _ (h .solve-here .result) _ _ (h .solve-here .ensures) refl refl in
+    let a = rows-answered _ _ _ _ z (parts-moments _ _ _) _ _ _ _ (rows d) _ _ _ _ _ _ (entry d .pre .1) (h .solve-here .result) _ (h .solve-here .ensures) refl refl in
     loop-exact _ _ z _ _ _ a _ (c .enum-told2 .given .1)
 
 pub exact-spec : {M : Type 1} → statement M
