@@ -20,303 +20,18 @@ mod plain;
 mod scan;
 #[path = "../plain/scans.rs"]
 mod scans;
+mod tables;
 #[path = "../terminal/tray.rs"]
 mod tray;
 
-use clock::now;
+use clock::time;
 use plain::entries;
 use std::cell::RefCell;
 use std::hint::black_box;
+use tables::*;
 
-const UNDER: u8 = 0;
-const AT_MOST: u8 = 1;
-const EXACTLY: u8 = 2;
-const AT_LEAST: u8 = 3;
-const OVER: u8 = 4;
-
-fn guard(clock: u8, relation: u8, constant: u16) -> Vec<u8> {
-    let [low, high] = constant.to_le_bytes();
-    vec![2, clock, relation, low, high]
-}
-
-fn reset(clock: u8) -> Vec<u8> {
-    vec![3, clock]
-}
-
-/// A table of these steps, each its records one after the other.
-fn table(clocks: u8, steps: &[Vec<u8>]) -> Vec<u8> {
-    let mut bytes = vec![1, clocks];
-    for step in steps {
-        bytes.extend(step);
-        bytes.push(4);
-    }
-    bytes.push(5);
-    bytes
-}
-
-// Tables.
-
-const S1: &[u8] = include_bytes!("../samples/S1.table");
-const S2: &[u8] = include_bytes!("../samples/S2.table");
-const S8: &[u8] = include_bytes!("../samples/S8.table");
-const S9: &[u8] = include_bytes!("../samples/S9.table");
-const S10: &[u8] = include_bytes!("../samples/S10.table");
-const S11: &[u8] = include_bytes!("../samples/S11.table");
-
-/// 531 bytes, the longest table: sixteen steps with four guards and six resets each.
-fn longest() -> Vec<u8> {
-    let guards: Vec<u8> = (1..=4).flat_map(|i| guard(i, AT_MOST, 4000)).collect();
-    let resets: Vec<u8> = (1..=6).flat_map(reset).collect();
-    table(6, &vec![[guards, resets].concat(); 16])
-}
-
-/// 324 bytes: 64 guards in a step, and no reset.
-fn guards_only() -> Vec<u8> {
-    let guards: Vec<u8> = (0..64)
-        .flat_map(|i| guard(i % 6 + 1, AT_MOST, 4000))
-        .collect();
-    table(6, &[guards])
-}
-
-/// 327 bytes: a step with a reset, and then one with 64 guards, of which none holds where every clock reads 2,000.
-fn guards_of_another_step() -> Vec<u8> {
-    let guards: Vec<u8> = (0..64)
-        .flat_map(|i| guard(i % 6 + 1, UNDER, 2000))
-        .collect();
-    table(6, &[reset(1), guards])
-}
-
-/// 531 bytes: sixteen steps with six resets each, and 64 guards, four in each step or all in the first. The last guard of a step
-/// holds from a tick after the step before it.
-fn waiting(all_in_first: bool) -> Vec<u8> {
-    let step = |i: u8| {
-        let number = match (all_in_first, i) {
-            (false, _) => 4,
-            (true, 0) => 64,
-            (true, _) => 0,
-        };
-        let guards = (1..=number).flat_map(|j| match j {
-            _ if j == number => guard(4, AT_LEAST, 1),
-            _ => guard(j % 6 + 1, AT_MOST, 4000),
-        });
-        guards.chain((1..=6).flat_map(reset)).collect()
-    };
-    let steps: Vec<_> = (0..16).map(step).collect();
-    table(6, &steps)
-}
-
-/// 211 bytes: sixteen steps with six resets each, and no guard.
-fn resets_only() -> Vec<u8> {
-    let resets: Vec<u8> = (1..=6).flat_map(reset).collect();
-    table(6, &vec![resets; 16])
-}
-
-/// Six clocks, sixteen steps, 64 guards, rounds without end: each step asks something of four clocks.
-fn largest() -> Vec<u8> {
-    let step = |i: u8| {
-        let clock = |j: u8| (i + j) % 6 + 1;
-        [
-            guard(clock(0), AT_LEAST, 1),
-            guard(clock(1), AT_MOST, 400),
-            guard(clock(2), OVER, 0),
-            guard(clock(3), UNDER, 500),
-            reset(clock(0)),
-        ]
-        .concat()
-    };
-    let steps: Vec<_> = (0..16).map(step).collect();
-    table(6, &steps)
-}
-
-/// The largest table, with a clock in place of another that is never reset and runs out: a count of rounds.
-fn largest_with_an_end() -> Vec<u8> {
-    let step = |i: u8| {
-        let clock = |j: u8| (i + j) % 5 + 1;
-        [
-            guard(clock(0), AT_LEAST, 1),
-            guard(clock(1), AT_MOST, 400),
-            guard(clock(2), OVER, 0),
-            guard(6, UNDER, 4000),
-            reset(clock(0)),
-        ]
-        .concat()
-    };
-    let steps: Vec<_> = (0..16).map(step).collect();
-    table(6, &steps)
-}
-
-/// A line as it may be: hook in, settle, weigh, label, scan out.
-fn line() -> Vec<u8> {
-    let steps = [
-        [guard(1, AT_LEAST, 20), reset(1), reset(2)].concat(),
-        guard(2, AT_LEAST, 5),
-        [guard(2, AT_MOST, 12), reset(3)].concat(),
-        [guard(3, AT_LEAST, 1), guard(3, UNDER, 8)].concat(),
-        [guard(1, AT_MOST, 40), guard(3, OVER, 2)].concat(),
-    ];
-    table(3, &steps)
-}
-
-/// One step with 64 guards, and every clock reset.
-fn crowded(relation: u8, constant: u16) -> Vec<u8> {
-    let guards: Vec<u8> = (0..64)
-        .flat_map(|i| guard(i % 6 + 1, relation, constant))
-        .collect();
-    let resets: Vec<u8> = (1..=6).flat_map(reset).collect();
-    table(6, &[[guards, resets].concat()])
-}
-
-/// Steps of which clocks up to `used` are a part, with more guards, up to 64, that every run of the plans here meets.
-fn filled(mut steps: Vec<Vec<u8>>, used: u8) -> Vec<u8> {
-    let counted = plain::read(&table(6, &steps)).unwrap();
-    let length = counted.steps;
-    for i in 0..64 - counted.guards {
-        let clock = (i / 2 / length % 6) as u8 + 1;
-        let (relation, constant) = [(AT_LEAST, 0), (AT_MOST, 4000)][i / length % 2];
-        steps[i % length].extend(guard(clock, relation, constant));
-    }
-    for step in &mut steps {
-        step.extend((used + 1..=6).flat_map(reset));
-    }
-    table(6, &steps)
-}
-
-/// A table that was slow for passes that only go forth. The second steps are exactly 11 apart, and the first steps less, so that
-/// the first steps come late at first and each a part sooner than the one before: a way back from the last round to the first.
-fn drifting() -> Vec<u8> {
-    let first = [guard(3, UNDER, 11), guard(2, AT_LEAST, 1), reset(3)].concat();
-    let second = [guard(1, EXACTLY, 11), reset(1), reset(2)].concat();
-    filled(vec![first, second], 3)
-}
-
-/// Half rounds of three steps. The third is late after the second of the half before, the first is late for the third, and the
-/// second is late after the first: ways forth and back in turn, from each half to the next. With an end, the third are all
-/// within so many ticks.
-fn zigzag(end: Option<u16>) -> Vec<u8> {
-    let half = |here: u8, before: u8| {
-        let third = [guard(1, AT_MOST, 1), guard(before, AT_LEAST, 3)].concat();
-        let within = end.map_or(vec![], |most| guard(4, AT_MOST, most));
-        [
-            reset(1),
-            [guard(1, AT_LEAST, 1), reset(here)].concat(),
-            [third, within].concat(),
-        ]
-    };
-    let steps = [half(2, 3), half(3, 2)].concat();
-    filled(steps, 4)
-}
-
-/// Four steps are within 3,999 ticks of each other, round by round, and the fifth comes 4,000 after the fifth of the round before: a
-/// chain of steps back from each fifth step, that fits exactly.
-fn descending() -> Vec<u8> {
-    let mut steps: Vec<_> = [3984, 5, 5, 5]
-        .map(|most| [guard(1, AT_MOST, most), reset(1)].concat())
-        .into();
-    steps.push([guard(2, AT_LEAST, 4000), reset(2)].concat());
-    filled(steps, 2)
-}
-
-/// One that bench/search.rs found for passes forth and back alone, reduced to what matters. The second steps are 3,994 ticks after the
-/// third before them and soon after the first, and the fourth steps are soon after the third and late after the first before them: each
-/// pass forth and back moves one half round.
-fn staircase() -> Vec<u8> {
-    let steps = vec![
-        reset(1),
-        [guard(2, EXACTLY, 3994), guard(1, AT_MOST, 6), reset(2)].concat(),
-        reset(2),
-        [guard(2, AT_MOST, 3), guard(1, AT_LEAST, 102), reset(1)].concat(),
-    ];
-    filled(steps, 2)
-}
-
-/// One that bench/search.rs found for passes and ways home, reduced to what matters. The fifth steps are over 3,990 ticks apart, so that
-/// the second of a round is late for the third of the round before, that for its fourth, and that for its first: a way back from the last
-/// round to the first, with steps forth on it. A way home goes it anew from each round, and a way out goes it once.
-fn receding() -> Vec<u8> {
-    let steps = vec![
-        reset(3),
-        guard(2, UNDER, 3979),
-        reset(2),
-        guard(3, AT_MOST, 3),
-        [guard(1, OVER, 3990), reset(1)].concat(),
-    ];
-    filled(steps, 3)
-}
-
-/// The slowest plan that bench/search.rs found for passes and ways home and out, reduced to what matters. The last steps are over 3,982
-/// ticks after the first before them, and from each of them guards from above lead back over three clocks in turn, some of them forth
-/// again on the way, from the last round to the first: ways home and out both are cut or gain little.
-fn braided() -> Vec<u8> {
-    let steps = vec![
-        [guard(3, OVER, 139), reset(4)].concat(),
-        [guard(1, UNDER, 3995), reset(2)].concat(),
-        [guard(1, AT_MOST, 3993), reset(3)].concat(),
-        reset(1),
-        [guard(2, UNDER, 22), reset(3)].concat(),
-        [guard(3, UNDER, 11), reset(3)].concat(),
-        [guard(3, UNDER, 19), reset(3)].concat(),
-        [reset(1), reset(2)].concat(),
-        guard(3, AT_MOST, 19),
-        reset(1),
-        guard(2, EXACTLY, 5),
-        reset(3),
-        [guard(3, UNDER, 9), guard(4, OVER, 3982)].concat(),
-    ];
-    filled(steps, 4)
-}
-
-/// One whose windows were slow for turns forth and back, reduced to what matters; the plan is quick. Every fifth step is within 3,998
-/// ticks, so that the last round bounds the one before it from above, and so on to the first: from the fifth step back to the third and
-/// the first, forth to the second, back to the fourth of the round before, and forth to its fifth.
-fn recoiling() -> Vec<u8> {
-    let steps = vec![
-        reset(1),
-        [guard(1, AT_MOST, 0), guard(2, AT_LEAST, 11)].concat(),
-        [guard(1, OVER, 0), reset(3)].concat(),
-        [reset(1), reset(2)].concat(),
-        [
-            guard(1, AT_MOST, 1),
-            guard(4, AT_MOST, 3998),
-            guard(3, AT_LEAST, 2),
-        ]
-        .concat(),
-    ];
-    filled(steps, 4)
-}
-
-// Timing.
-
-/// Median times of a call in nanoseconds, of each side.
-fn time<const N: usize>(mut sides: [&mut dyn FnMut(); N]) -> [f64; N] {
-    let batch = |call: &mut dyn FnMut(), number: u32| {
-        let begin = now();
-        for _ in 0..number {
-            call();
-        }
-        (now() - begin) / f64::from(number)
-    };
-    // As many calls as take about half a millisecond, after some to warm up.
-    let number = |call: &mut dyn FnMut()| {
-        batch(call, 3);
-        let once = batch(call, 3).max(1.0);
-        let number = (500_000.0 / once).clamp(1.0, 20_000.0) as u32;
-        batch(call, number);
-        number
-    };
-    let numbers = sides.each_mut().map(|side| number(side));
-    let slow = sides.iter_mut().any(|side| batch(side, 1) > 5_000_000.0);
-    let turns = if slow { 21 } else { 201 };
-    let mut times = [const { Vec::new() }; N];
-    for _ in 0..turns {
-        for (i, side) in sides.iter_mut().enumerate() {
-            times[i].push(batch(side, numbers[i]));
-        }
-    }
-    times.map(|mut times| {
-        times.sort_by(f64::total_cmp);
-        times[times.len() / 2]
-    })
-}
+/// How often the sides take turns.
+const TURNS: usize = 201;
 
 /// A line of the table: for each variant the times of the library and of plain Rust, and their ratio.
 fn show(question: &str, times: &[f64]) {
@@ -349,7 +64,7 @@ fn bench_read(name: &str, bytes: &[u8]) {
     assert!(judge::read(bytes, &mut a) && entries::read(bytes, &mut b));
     assert_eq!(a, b);
     assert_eq!(a[0], 0);
-    let times = time([
+    let times = time(TURNS, [
         &mut || assert!(judge::read(black_box(bytes), black_box(&mut a))),
         &mut || assert!(entries::read(black_box(bytes), black_box(&mut b))),
     ]);
@@ -382,7 +97,7 @@ fn bench_rounds(name: &str, bytes: &[u8]) {
         let mut answer = [9; 4];
         move || assert!(rounds(black_box(bytes), black_box(&mut answer)))
     });
-    let times = time(calls.each_mut().map(|call| call as &mut dyn FnMut()));
+    let times = time(TURNS, calls.each_mut().map(|call| call as &mut dyn FnMut()));
     let counts = both(count(answers[0]), count(answers[2]));
     show(&format!("rounds, {name}: {counts}"), &times);
 }
@@ -450,7 +165,7 @@ fn bench_plan(name: &str, bytes: &[u8], k: u64) {
     answers[2].agree(&answers[3]);
     let rooms = &RefCell::new(Rooms::new());
     let mut calls = sides.map(|plan| move || rooms.borrow_mut().ask(plan, bytes, k));
-    let times = time(calls.each_mut().map(|call| call as &mut dyn FnMut()));
+    let times = time(TURNS, calls.each_mut().map(|call| call as &mut dyn FnMut()));
     let looped = match (answers[0].looped(), answers[2].looped()) {
         (false, _) => "",
         (true, false) => ", a loop from log-in",
@@ -480,7 +195,7 @@ fn bench_demands(name: &str, bytes: &[u8], k: u64) {
             assert!(demands(black_box(bytes), k, black_box(row), answer))
         }
     });
-    let times = time(calls.each_mut().map(|call| call as &mut dyn FnMut()));
+    let times = time(TURNS, calls.each_mut().map(|call| call as &mut dyn FnMut()));
     let [log_in, _, mid_shift, _] = answers.map(|(_, answer)| answer[1].to_string());
     let numbers = both(log_in, mid_shift);
     show(&format!("demands, {name}: {numbers}"), &times);
@@ -546,7 +261,7 @@ fn bench_panel(name: &str, bytes: &[u8], k: u64) -> f64 {
     assert_eq!(panel::widest(bytes, k), entries::widest(bytes, k));
     let kind = a.kind();
     let mut rooms = Rooms::new();
-    let [windows, plain, plan, widest] = time([
+    let [windows, plain, plan, widest] = time(TURNS, [
         &mut || a.ask(panel::windows, bytes, k),
         &mut || b.ask(entries::windows, bytes, k),
         &mut || rooms.ask(judge::plan, bytes, k),
@@ -578,51 +293,10 @@ fn bench_panels() {
         " {:>7} {:>11} {:>7} {:>11}",
         "by plan", "proved ns", "by plan", "proved ns"
     );
-    let tables: [(&str, &[u8], u64); 21] = [
-        ("S10 for 2", S10, 2),
-        ("5 steps for 10", &line(), 10),
-        ("5 steps for 204", &line(), 204),
-        ("S1 for 1,024", S1, 1024),
-        ("S8 for 1,024", S8, 1024),
-        ("S9 for 1,024", S9, 1024),
-        ("S10 for 512", S10, 512),
-        ("S11 for 1,024", S11, 1024),
-        ("6 clocks, 16 steps, 64 guards, for 64", &largest(), 64),
-        (
-            "6 clocks, 16 steps, 64 guards, with an end, for 64",
-            &largest_with_an_end(),
-            64,
-        ),
-        (
-            "1 step, 64 exact guards, for 1,024",
-            &crowded(EXACTLY, 3),
-            1024,
-        ),
-        ("1 step, 64 guards, for 1,024", &crowded(AT_LEAST, 3), 1024),
-        (
-            "1 step, 64 guards from above, for 1,024",
-            &crowded(AT_MOST, 3),
-            1024,
-        ),
-        ("2 steps, 64 guards, for 512: drifting", &drifting(), 512),
-        ("6 steps, 64 guards, for 170: zigzag", &zigzag(None), 170),
-        (
-            "6 steps, 64 guards, for 170: zigzag",
-            &zigzag(Some(1000)),
-            170,
-        ),
-        (
-            "5 steps, 64 guards, for 204: descending",
-            &descending(),
-            204,
-        ),
-        ("4 steps, 64 guards, for 256: staircase", &staircase(), 256),
-        ("5 steps, 64 guards, for 204: receding", &receding(), 204),
-        ("5 steps, 64 guards, for 204: recoiling", &recoiling(), 204),
-        ("13 steps, 64 guards, for 78: braided", &braided(), 78),
-    ];
-    let ratios = tables.map(|(name, bytes, k)| bench_panel(name, bytes, k));
-    let most = ratios.into_iter().fold(0.0, f64::max);
+    let ratios = rounds()
+        .into_iter()
+        .map(|(name, bytes, k)| bench_panel(name, &bytes, k));
+    let most = ratios.fold(0.0, f64::max);
     println!("windows by plan: at most {most:.2}; the goal is 4");
 }
 
@@ -661,7 +335,7 @@ fn bench_scan(name: &str, bytes: &[u8], step: u16, readings: [u16; 6], passed: u
         _ => format!("refused {}", told.0[0]),
     };
     let mut answer = [9; 4];
-    let [scan, plain, read] = time([
+    let [scan, plain, read] = time(TURNS, [
         &mut || {
             ask_scan(scan::one, bytes, &record, counter, &mut told);
         },
@@ -775,7 +449,7 @@ fn bench_tray(name: &str, bytes: &[u8], ticks: impl Fn(usize) -> u16) -> f64 {
     assert_eq!((&a, &a), (&b, &c));
     assert_eq!(a.answer[0], 0);
     let accepted = a.answer[1];
-    let [tray, singly, plain] = time([
+    let [tray, singly, plain] = time(TURNS, [
         &mut || a.ask(tray::scan, bytes, &record, &counters),
         &mut || b.ask_singly(bytes, &record, &counters),
         &mut || c.ask(scans::entries::tray, bytes, &record, &counters),
@@ -831,7 +505,7 @@ fn bench_conversion(name: &str, input: &[u8], sides: [Convert; 2]) -> Vec<u8> {
         [0, number, ..] => (format!("{number} bytes"), a.1[..number as usize].to_vec()),
         [number, ..] => (format!("refused {number}"), Vec::new()),
     };
-    let times = time([&mut || convert(sides[0], &mut a), &mut || {
+    let times = time(TURNS, [&mut || convert(sides[0], &mut a), &mut || {
         convert(sides[1], &mut b)
     }]);
     show(&format!("{name}, {} bytes: {kind}", input.len()), &times);

@@ -14,3 +14,5 @@ pub mod PlanTest
 pub mod LoopTest
 pub mod Plans
 pub mod Claim
+-- guards between two clocks
+pub mod TwoClocks

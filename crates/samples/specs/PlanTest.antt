@@ -55,22 +55,22 @@ module _ (P n : ℕ) (σ : List Step) (D : Starts) (t s : ℕ → ℕ) where
   abbrev x : ℕ → ℕ
   x = times (top (suc n) s) K t s
 
-  -- The demands hold; tight ones, at most one for each other moment, lead from each moment to moment 0; and a tight one
-  -- leads from a moment to the last reset of each clock before the start.
+  -- The demands hold; tight ones, at most one for each other moment, lead from each moment to moment 0; and tight ones, at most one for
+  -- each clock, lead from a moment to the last reset of each clock before the start.
   unfoldable pub isPlan : Bool
   isPlan =
       eqb (t 0) 0
       && (clocked n σ
       && (solves P ds x
       && (below (suc K) (held P ds x (K + n))
-      && below n (λ j. pinned P ds x K (K + suc j)))))
+      && below n (λ j. pinned P ds x K n (K + suc j)))))
 
   record Passed : Type 0 where
     start : t 0 ≡ 0
     clocks : Clocks n σ
     solution : Satisfies P x ds
     first : (i : ℕ) → i < suc K → held P ds x (K + n) i ≡ true
-    last : (j : ℕ) → j < n → pinned P ds x K (K + suc j) ≡ true
+    last : (j : ℕ) → j < n → pinned P ds x K n (K + suc j) ≡ true
 
   passed : isPlan ≡ true → Passed
   unfolding isPlan
@@ -127,8 +127,8 @@ module _ (P n : ℕ) (σ : List Step) (D : Starts) (t s : ℕ → ℕ) where
         smallest r w a (suc j) p l =
             omega (
               arith,
-              pinned-last P ds x K (K + suc j) (h .last j (omega arith)) (other t r) (other-solves t r w a)
-                  (λ a b. omega (arith, row .now a b, other-row t r w .now a b)),
+              pinned-last P ds x K (other t r) (other-solves t r w a) (λ a b. omega (arith, row .now a b, other-row t r w .now a b))
+                  n (K + suc j) (h .last j (omega arith)),
               row .past (suc j) p l,
               other-row t r w .past (suc j) p l,
             )

@@ -21,12 +21,12 @@ use Rattle.samples.specs.Samples as said
 use Rattle.asking.specs.Rounds.{clocksOf, cycleOf}
 use Rattle.samples.specs.Follows.{PlanHolds}
 use Rattle.samples.specs.Checks.{both, all, all-every, some, below}
-use Rattle.samples.specs.Tight.{held}
+use Rattle.samples.specs.Tight.{held, pinned}
 use Rattle.samples.specs.PlanTest.{isPlan, plan-sound}
 use Rattle.samples.specs.LoopTest.{apart, gains, isLoop, loop-sound}
 
 -- the test of what is said of "plan for k"
-abbrev test : ℕ → Starts → List Step → Plan → Bool
+abbrev pub test : ℕ → Starts → List Step → Plan → Bool
 test n D τ (said.planned k P moments starts) =
     eqb (length moments) (k * length τ)
     && (eqb (length starts) n
@@ -34,7 +34,7 @@ test n D τ (said.planned k P moments starts) =
     && isPlan P n (copies τ k) D (momentsIn moments) (startsIn starts)))
 test n D τ (said.looped k row bounds) = isLoop (demands n (copies τ k) D) row bounds
 
-test-holds : (n : ℕ) (D : Starts) (τ : List Step) → Places n D → (p : Plan) → test n D τ p ≡ true → PlanHolds n D τ p
+pub test-holds : (n : ℕ) (D : Starts) (τ : List Step) → Places n D → (p : Plan) → test n D τ p ≡ true → PlanHolds n D τ p
 test-holds n D τ g (said.planned k P moments starts) e =
     let (steps, e1) = both e in
     let (clocks, e2) = both e1 in
@@ -55,7 +55,7 @@ tested s = all (test (clocksOf (s .bytes)) (startsOf (s .start)) (cycleOf (s .by
 pass : all tested samples ≡ true
 unfolding samples recordsFrom listing stepsIn stepOf guardsOf flagged upOf downOf endOf copies zeroed
     anyStarts zeroStarts demands stepsDemands guardsDemands startDemands
-    top all some below held isPlan apart gains isLoop
+    top all some below held pinned isPlan apart gains isLoop
 pass = refl
 
 -- The plans and loops that are given are plans and loops.

@@ -54,19 +54,26 @@ module _ (P : ℕ) (ds : List Demand) (x : ℕ → ℕ) where
           let q : d .from ≡ a = eqb-true (d .from) a from in
           omega (arith, ap x q, ap y q, tight-other y h d m full, k (d .to) later y h)
 
-  -- a tight demand from one of moments 0 to K to moment b
-  abbrev pub pins : ℕ → ℕ → Demand → Bool
-  pins K b e = eqb (e .to) b && (tight e && leb (e .from) K)
+  -- A moment that can't be later while moments 0 to K stay: tight demands, at most so many, lead to it from one of these.
+  unfoldable pub pinned : ℕ → ℕ → ℕ → Bool
+  pinned K zero b = leb b K
+  pinned K (suc few) b = leb b K || some (λ e. eqb (e .to) b && (tight e && pinned K few (e .from))) ds
 
-  -- A moment that can't be later while moments 0 to K stay: a tight demand leads to it from one of these.
-  abbrev pub pinned : ℕ → ℕ → Bool
-  pinned K b = some (pins K b) ds
+  module _ (K : ℕ) (y : ℕ → ℕ) (h : Satisfies P y ds) (same : (a : ℕ) → a ≤ K → x a + y 0 ≡ y a + x 0) where
+    pub pinned-last : (few b : ℕ) → pinned K few b ≡ true → y b + x 0 ≤ x b + y 0
+    unfolding pinned
+    pinned-last zero b e = omega (arith, same b (leb-true b K e))
+    pinned-last (suc few) b e = go (pinned-last few) (either (leb b K) _ e)
+      where
+        through : Demand → Bool
+        through d = eqb (d .to) b && (tight d && pinned K few (d .from))
 
-  pub pinned-last : (K b : ℕ) → pinned K b ≡ true → (y : ℕ → ℕ) → Satisfies P y ds
-      → ((a : ℕ) → a ≤ K → x a + y 0 ≡ y a + x 0) → y b + x 0 ≤ x b + y 0
-  pinned-last K b e y h same =
-      let (d, m, j) = some-member (pins K b) ds e in
-      let (to, j1) = both {a = eqb (d .to) b} {b = tight d && leb (d .from) K} j in
-      let (full, near) = both {a = tight d} {b = leb (d .from) K} j1 in
-      let q : d .to ≡ b = eqb-true (d .to) b to in
-      omega (arith, ap x q, ap y q, tight-other y h d m full, same (d .from) (leb-true (d .from) K near))
+        go : ((a : ℕ) → pinned K few a ≡ true → y a + x 0 ≤ x a + y 0) → (leb b K ≡ true) ⊎ (some through ds ≡ true)
+            → y b + x 0 ≤ x b + y 0
+        go k (inl i) = omega (arith, same b (leb-true b K i))
+        go k (inr i) =
+            let (d, m, j) = some-member through ds i in
+            let (to, j1) = both {a = eqb (d .to) b} {b = tight d && pinned K few (d .from)} j in
+            let (full, before) = both {a = tight d} {b = pinned K few (d .from)} j1 in
+            let q : d .to ≡ b = eqb-true (d .to) b to in
+            omega (arith, ap x q, ap y q, tight-other y h d m full, k (d .from) before)
