@@ -13,7 +13,7 @@ use lib.Seq.{getD-set-same, getD-set-other}
 use Rattle.runs.specs.declared.Demand.{Demand}
 use Rattle.sweeps.specs.Order.{forthAt, forthOf}
 use Rattle.sweeps.specs.Covered.{forth-among}
-use Rattle.paths.specs.Places.{at, written}
+use Rattle.basics.specs.Places.{at, written}
 use Rattle.paths.specs.Constraint.{Constraint, Holds}
 use Rattle.checks.specs.InParts.{edge, edges}
 use Rattle.leads.specs.Leads.{ledBy, Leading}

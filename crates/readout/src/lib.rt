@@ -7,7 +7,7 @@ use sides::NONE;
 ghost use mathlib.Core.Path.{_≡_};
 ghost use Prim.Native.Nat.{ℕ, _+_, _-_, _≤_, _<_};
 ghost use lib.ListN.{length};
-ghost use Rattle.paths.specs.Places.{at, written};
+ghost use Rattle.basics.specs.Places.{at, written};
 ghost use Rattle.readout.specs.Late.{Began, Rowed, Told};
 ghost use Rattle.readout.specs.Reach.{Further, Reach};
 

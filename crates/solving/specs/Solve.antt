@@ -12,7 +12,7 @@ use Rattle.leads.specs.Leads.{ledBy}
 use Rattle.sweeps.specs.Order.{returnOf, partnersFrom}
 use Rattle.sweeps.specs.Covered.{among-forth}
 use Rattle.basics.specs.Tab.{tab, is-tab, length-tab, getD-tab}
-use Rattle.paths.specs.Places.{at, written, filled, length-written, at-written, at-written-rest}
+use Rattle.basics.specs.Places.{at, written, filled, length-written, at-written, at-written-rest}
 use Rattle.paths.specs.Walk.{ring-few}
 use Rattle.paths.specs.Constraint.{Constraint, All}
 use Rattle.paths.specs.State.{State, state}
