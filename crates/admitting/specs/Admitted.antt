@@ -29,7 +29,8 @@ use Rattle.effects.specs.Sides.{On, upper, upper-on, fill-on, fill-same, fill-o
 use Rattle.effects.specs.Whole.{Side, whole, place, whole-before, upper-before, upper-same}
 use Rattle.constraints.specs.Partner.{partnersOf, partners-are}
 use Rattle.steps.specs.Puts.{putsOf, Put, puts}
-use Rattle.admitting.specs.Grid.{gridOf, EffectOf, LeftTo, left-same, left-ranged}
+use Rattle.effects.specs.Stored.{gridOf, EffectOf}
+use Rattle.admitting.specs.Grid.{LeftTo, left-same, left-ranged}
 use Rattle.admitting.specs.Demands.{starts-short}
 
 -- Some row of values solves the left part of M and satisfies D's demands for clocks 1 to w - 1.

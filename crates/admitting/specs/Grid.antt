@@ -1,4 +1,4 @@
--- An effect with w vertices for each configuration in a list of codes: from index `base` on, rows that begin `stride` codes apart.
+-- The left part of an effect in a list of codes, from index `base` on, with rows that begin `stride` codes apart.
 use mathlib.Core.Path.{_≡_, ap, _∙_}
 use mathlib.Core.Logic.{inl}
 use mathlib.Core.List.{List}
@@ -9,18 +9,12 @@ use lib.ListN.{length, getD}
 use borrow.Author.Count.{below-more}
 use Rattle.basics.specs.Choice.{not-below-zero}
 use Rattle.table.specs.Step.{Step}
-use Rattle.zones.specs.Matrix.{Matrix}
 use Rattle.zones.specs.Codes.{bound, within-coded}
 use Rattle.zones.specs.Cells.{cell, matrix, Ranged}
 use Rattle.zones.specs.Lines.{LineTo}
-use Rattle.effects.specs.Describes.{Describes}
-use Rattle.effects.specs.Whole.{Side, whole, whole-same}
-use Rattle.effects.specs.Tells.{Sized}
+use Rattle.effects.specs.Whole.{Side}
 use Rattle.effects.specs.Joining.{effect-joinable}
-
--- The matrix that the codes stand for.
-abbrev pub gridOf : List ℕ → ℕ → ℕ → Matrix
-gridOf m base stride a b = bound (getD m (base + a * stride + b) 0)
+use Rattle.effects.specs.Stored.{gridOf, EffectOf}
 
 -- The first w rows of w codes lie in a list of that size.
 pub record Lies (w base stride size : ℕ) : Type 0 where
@@ -28,11 +22,6 @@ pub record Lies (w base stride size : ℕ) : Type 0 where
   pub most : w ≤ 7
   pub fits : base + w * stride ≤ size
   pub small : size ≤ 4900
-
--- It is the effect of σ.
-pub record EffectOf (w base stride : ℕ) (m : List ℕ) (σ : List Step) : Type 0 where
-  pub sized : Sized σ
-  pub describes : Describes σ (whole w (gridOf m base stride))
 
 -- z has the first n rows of w codes of m in its cells.
 pub record LeftTo (w n base stride : ℕ) (m z : List ℕ) : Type 0 where
@@ -79,14 +68,6 @@ module _ {w base stride : ℕ} {m l : List ℕ} (side : Side w) (t : LeftTo w w 
 
 pub place-lies : {w : ℕ} → Side w → (at : ℕ) {size : ℕ} → at + 196 ≤ 4900 → size ≡ 4900 → Lies w at 14 size
 place-lies side at h e = record { wide = omega arith; most = side .1; fits = omega arith; small = omega arith }
-
--- The effect in the first 2 * w vertices of cells.
-pub cells-effect : {w : ℕ} → Side w → {l : List ℕ} {σ : List Step} → Sized σ → Describes σ (whole w (matrix l))
-    → EffectOf w 0 21 l σ
-cells-effect {w} side {l} s d = record {
-  sized = s;
-  describes = whole-same w side (matrix l) (gridOf l 0 21) (λ u v hu hv. ap (λ k. bound (getD l k 0)) (omega arith)) d;
-}
 
 pub cells-lie : {w : ℕ} → Side w → {size : ℕ} → size ≡ 441 → Lies w 0 21 size
 cells-lie side e = record { wide = omega arith; most = side .1; fits = omega arith; small = omega arith }

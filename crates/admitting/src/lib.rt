@@ -24,7 +24,8 @@ ghost use Rattle.effects.specs.Starts.{startsFor};
 ghost use Rattle.effects.specs.StepDemands.{Short};
 ghost use Rattle.effects.specs.Whole.{Side};
 ghost use Rattle.steps.specs.Puts.{putOf, putsOf};
-ghost use Rattle.admitting.specs.Grid.{Lies, LeftTo, EffectOf};
+ghost use Rattle.effects.specs.Stored.{EffectOf};
+ghost use Rattle.admitting.specs.Grid.{Lies, LeftTo};
 
 // The left part of the effect in `cells`, whose rows begin `stride` codes apart from index `base` on, in the cells of `left`.
 fn left_part(left: &mut [u64], cells: &[u64], base: usize, stride: usize, side: usize)

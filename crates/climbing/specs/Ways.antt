@@ -13,28 +13,36 @@ use Rattle.zones.specs.Matrix.{Matrix}
 use Rattle.zones.specs.Cells.{matrix}
 use Rattle.effects.specs.Describes.{Describes}
 use Rattle.effects.specs.Begins.{Begins, no-run}
-use Rattle.effects.specs.Settle.{settled}
-use Rattle.effects.specs.Count.{limit, unending}
+use Rattle.effects.specs.Count.{limit}
+use Rattle.effects.specs.Steady.{Steady, steady-settled, steady-limit, steady-always}
 use Rattle.effects.specs.Known.{twice, known-top, known-more, known-same}
 use Rattle.effects.specs.Whole.{Side, whole}
 use Rattle.effects.specs.Tells.{Tells}
 use Rattle.effects.specs.Joining.{Joinable, Joins}
+use Rattle.effects.specs.Stored.{EffectOf, cells-effect}
 use Rattle.gluing.specs.Laying.{effectAt}
-use Rattle.admitting.specs.Grid.{EffectOf, cells-effect}
 use Rattle.joins.specs.Keeping.{LinesTo, kept-here, kept-other}
 use Rattle.climbing.specs.LeftPart.{SameLeft, same-tight, clash}
-use Rattle.climbing.specs.Climbing.{Tabled, Rounds, Counted, Powers, Reached, sized-rounds, rounds-joinable}
-use Rattle.climbing.specs.Climbing.{rounds-tell, power-limit, power-some}
+use Rattle.joins.specs.Rounds.{Tabled, Rounds, sized-rounds, rounds-joinable, rounds-tell}
+use Rattle.climbing.specs.Climbing.{Counted, Powers, Reached, power-limit, power-some}
 
 -- Every number of rounds runs from the starts that D allows.
 abbrev pub Always : Matrix → List Step → Type 0
 Always D τ = (k : ℕ) → Begins D (copies τ k)
 
+-- Every number of rounds runs from the starts that D allows; and the effect of some of them is at place i of the row m, whose left part
+-- tells from where every number of rounds runs.
+pub record Unending (w : ℕ) (D : Matrix) (τ : List Step) (i : ℕ) (m : List ℕ) : Type 0 where
+  pub always : Always D τ
+  pub low : i ≤ 24
+  pub rounds : Rounds τ (2 ^ i) (whole w (effectAt m (i * 196)))
+  pub steady : Steady τ (whole w (effectAt m (i * 196)))
+
 -- Where doubling ended, when one round runs from the starts that D allows: at a place below 24, twice whose rounds do not, or at
 -- 24, where every number of rounds does.
-pub record Climbs (w : ℕ) (D : Matrix) (m z : List ℕ) (place power : ℕ) : Type 0 where
+pub record Climbs (w : ℕ) (D : Matrix) (m z : List ℕ) (place settled power : ℕ) : Type 0 where
   pub low : place ≤ 24
-  pub endless : place ≡ 24 → (τ : List Step) → Reached w D τ 0 m → Always D τ
+  pub endless : place ≡ 24 → (τ : List Step) → Reached w D τ 0 m → Unending w D τ settled z
   pub is : place ≢ 24 → power ≡ 2 ^ place
   pub top : place ≢ 24 → (τ : List Step) → Reached w D τ 0 m
       → Reached w D τ place z × (¬ Begins D (copies τ (power + power)))
@@ -77,9 +85,20 @@ module _ (w : ℕ) (side : Side w) (D : Matrix) (τ : List Step) (i : ℕ) (m : 
   here : Rounds τ (2 ^ i) (whole w (effectAt m (i * 196)))
   here = record { table = table; describes = h .powers .at i (omega arith) }
 
-  -- Where that of 2 ^ 24 rounds is there, every number of rounds runs.
-  pub up-limit : i ≡ 24 → Always D τ
-  up-limit e = unending D τ (table .fair) (table .some) (subst (λ n. Begins D (copies τ (2 ^ n))) e (h .runs))
+  -- Where its left part tells from where every number of rounds runs, they do so from the starts that D allows.
+  unending : i ≤ 24 → Steady τ (whole w (effectAt m (i * 196))) → Unending w D τ i m
+  unending l t = record {
+    always = steady-always τ (table .fair) t D (2 ^ i) (here .describes) (h .runs);
+    low = l;
+    rounds = here;
+    steady = t;
+  }
+
+  -- So it is where that of 2 ^ 24 rounds is there.
+  pub up-limit : i ≡ 24 → Unending w D τ i m
+  up-limit e =
+      unending (omega arith) (steady-limit τ (table .fair) (table .some) (whole w (effectAt m (i * 196)))
+      (subst (λ n. Describes (copies τ (2 ^ n)) (whole w (effectAt m (i * 196)))) e (here .describes)))
 
   module _ (low : i < 24) where
     few : 2 ^ i ≤ limit
@@ -106,10 +125,10 @@ module _ (w : ℕ) (side : Side w) (D : Matrix) (τ : List Step) (i : ℕ) (m : 
 
     module _ (l : List ℕ) (d : Describes (copies τ (2 ^ (i + 1))) (whole w (matrix l))) where
       -- where it leaves the left part as it was, every number of rounds runs;
-      pub up-settled : SameLeft w w (i * 196) m l → Always D τ
+      pub up-settled : SameLeft w w (i * 196) m l → Unending w D τ i m
       up-settled s =
-          settled τ (table .fair) (2 ^ i) (2 ^ (i + 1)) more (whole w (effectAt m (i * 196))) (whole w (matrix l))
-          (here .describes) d (same-tight side s) D (h .runs)
+          unending (omega arith) (steady-settled τ (table .fair) (2 ^ i) (2 ^ (i + 1)) more (whole w (effectAt m (i * 196)))
+          (whole w (matrix l)) (here .describes) d (same-tight side s))
         where
           more : 2 ^ i < 2 ^ (i + 1)
           more = omega (arith, double i, power-some i)
@@ -130,18 +149,19 @@ up-refused D τ i ok e q r = clash (sym q ∙ e .1 (subst (λ n. Begins D (copie
 
 -- Where it ends.
 module _ (w : ℕ) (D : Matrix) (m z : List ℕ) where
-  pub climbs-top : (place power : ℕ) → place < 24 → power ≡ 2 ^ place
+  pub climbs-top : (place settled power : ℕ) → place < 24 → power ≡ 2 ^ place
       → ((τ : List Step) → Reached w D τ 0 m → Reached w D τ place z × (¬ Begins D (copies τ (2 ^ place + 2 ^ place))))
-      → Climbs w D m z place power
-  climbs-top place power low e f = record {
+      → Climbs w D m z place settled power
+  climbs-top place settled power low e f = record {
     low = omega arith;
     endless = λ q. absurd (omega arith);
     is = λ q. e;
     top = λ q. rw e f;
   }
 
-  pub climbs-endless : (power : ℕ) → ((τ : List Step) → Reached w D τ 0 m → Always D τ) → Climbs w D m z 24 power
-  climbs-endless power f = record {
+  pub climbs-endless : (settled power : ℕ) → ((τ : List Step) → Reached w D τ 0 m → Unending w D τ settled z)
+      → Climbs w D m z 24 settled power
+  climbs-endless settled power f = record {
     low = omega arith;
     endless = λ q. f;
     is = λ q. absurd (q refl);

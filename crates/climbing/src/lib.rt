@@ -17,9 +17,11 @@ ghost use Rattle.climbing.specs.Climbing.{Reached};
 ghost use Rattle.climbing.specs.Ways.{Climbs, Down};
 
 // Where doubling ended: the highest place and its number of rounds, twice which have no run; or place 24, where every number
-// has one. Runs are those from the starts that the variant allows.
+// has one. Runs are those from the starts that the variant allows. Where every number has one, the effect at the place `settled` has a
+// left part that more rounds leave as it is.
 pub struct Top {
     pub place: usize,
+    pub settled: usize,
     pub power: u64,
 }
 
@@ -60,7 +62,7 @@ fn same_left(row: &[u64], out: &[u64], place: usize, side: usize) -> bool
 pub fn up(row: &mut [u64], out: &mut [u64], left: &mut [u64], start: Start, side: usize) -> Top
     requires { ⌜ (length (now row) ≡ 4900) × (length (now out) ≡ 441) × (length (now left) ≡ 441) × Side side
         × ((τ : List Step) × Reached side (startsFor side start) τ 0 (now row)) ⌝ }
-    ensures { λ r. ⌜ Climbs side (startsFor side start) (now (row .entry)) (now (row .exit)) (r .place) (r .power) ⌝ }
+    ensures { λ r. ⌜ Climbs side (startsFor side start) (now (row .entry)) (now (row .exit)) (r .place) (r .settled) (r .power) ⌝ }
 {
     let mut i: usize = 0;
     let mut power: u64 = 1;
@@ -69,6 +71,7 @@ pub fn up(row: &mut [u64], out: &mut [u64], left: &mut [u64], start: Start, side
         if !twice {
             return Top {
                 place: i,
+                settled: i,
                 power: power,
             };
         }
@@ -76,6 +79,7 @@ pub fn up(row: &mut [u64], out: &mut [u64], left: &mut [u64], start: Start, side
         if same {
             return Top {
                 place: 24,
+                settled: i,
                 power: power,
             };
         }
@@ -83,6 +87,7 @@ pub fn up(row: &mut [u64], out: &mut [u64], left: &mut [u64], start: Start, side
         if !admitted {
             return Top {
                 place: i,
+                settled: i,
                 power: power,
             };
         }
@@ -92,6 +97,7 @@ pub fn up(row: &mut [u64], out: &mut [u64], left: &mut [u64], start: Start, side
     }
     Top {
         place: 24,
+        settled: i,
         power: power,
     }
 }

@@ -21,6 +21,8 @@ pub mod Range
 -- what a program that makes effects says of steps
 pub mod Tells
 pub mod Joining
+-- an effect in a list of codes
+pub mod Stored
 -- rounds: runs from an allowed start, and where their number does not matter
 pub mod Begins
 pub mod Settle
@@ -29,3 +31,8 @@ pub mod Count
 -- the count, and that runs exist
 pub mod Known
 pub mod Starts
+-- starts from which every number of rounds runs
+pub mod Steady
+pub mod WholeLeft
+-- the bounds that every run keeps
+pub mod Tightest

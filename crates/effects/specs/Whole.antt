@@ -99,7 +99,7 @@ module _ (w : ℕ) (side : Side w) where
 -- ---- The matrix of an effect without the clocks left out
 
 module _ (w : ℕ) (side : Side w) (M : Matrix) where
-  whole-entry : (u v : ℕ) → u < w + w → v < w + w → whole w M (back w u) (back w v) ≡ M u v
+  pub whole-entry : (u v : ℕ) → u < w + w → v < w + w → whole w M (back w u) (back w v) ≡ M u v
   whole-entry u v hu hv =
       let n = naming w side in
       rw (

@@ -2,5 +2,6 @@
 pub mod Joining
 -- effects in their places
 pub mod Keeping
--- the steps of a table
+-- the steps of a table, and rounds of them
 pub mod Round
+pub mod Rounds

@@ -4,6 +4,7 @@ use mathlib.Core.List.{List, [], _∷_}
 use Prim.Native.Nat.{ℕ, zero, suc, _-_, _≤_, _<_}
 use native.Mathlib.Omega.{arith}
 use lib.ListN.{length, getD, drop}
+use Rattle.basics.specs.Places.{KeptFrom}
 use Rattle.table.specs.Step.{Step}
 use Rattle.table.specs.declared.Refusal.{Refusal}
 use Rattle.runs.specs.Run.{Run}
@@ -38,7 +39,7 @@ same-list (suc n) (x ∷ l) (y ∷ l′) e f d =
     ∙ ap (λ z. y ∷ z) (same-list n l l′ (omega arith) (λ i h. f (suc i) (omega arith)) d)
 
 -- the same for rooms that are kept from place n on
-same-kept : (n : ℕ) (l a b : List ℕ) → plan.KeptFrom n l a → plan.KeptFrom n l b → ((i : ℕ) → i < n → getD a i 0 ≡ getD b i 0)
+same-kept : (n : ℕ) (l a b : List ℕ) → KeptFrom n l a → KeptFrom n l b → ((i : ℕ) → i < n → getD a i 0 ≡ getD b i 0)
     → a ≡ b
 same-kept n l a b p q f = same-list n a b (p .size ∙ sym (q .size)) f (p .rest ∙ sym (q .rest))
 

@@ -12,7 +12,7 @@ use Rattle.runs.specs.declared.Demand.{Demand}
 use Rattle.runs.specs.Demand.{plus}
 use Rattle.sweeps.specs.Order.{sideOf, forthAt}
 use Rattle.sweeps.specs.Ends.{Earlier, forth-at-ends}
-use Rattle.paths.specs.Places.{at}
+use Rattle.basics.specs.Places.{at}
 use Rattle.paths.specs.Constraint.{Constraint}
 use Rattle.checks.specs.InParts.{edge, edges}
 use Rattle.lowering.specs.Lowered.{Bounds, bounds, lowersOf}

@@ -7,7 +7,7 @@ use native.Mathlib.Omega.{arith}
 use Rattle.runs.specs.declared.Demand.{Demand}
 use Rattle.sweeps.specs.Order.{forthAt, forthOf, upperAt, upperOf}
 use Rattle.sweeps.specs.Covered.{Among, forth-among, among-forth, upper-among, among-upper}
-use Rattle.paths.specs.Places.{at}
+use Rattle.basics.specs.Places.{at}
 use Rattle.paths.specs.Constraint.{Constraint, Holds}
 use Rattle.checks.specs.InParts.{edge, edges}
 use Rattle.lowering.specs.Lowered.{none}

@@ -11,7 +11,7 @@ use lib.Dec.{ltb}
 use lib.ListN.{length, set, length-set}
 use lib.Seq.{getD-set-same, getD-set-other}
 use borrow.Author.Tests.{ltb-true, ltb-false, lt-ltb}
-use Rattle.paths.specs.Places.{at}
+use Rattle.basics.specs.Places.{at}
 use Rattle.paths.specs.Constraint.{Constraint, Holds, All}
 use Rattle.lowering.specs.Lowered.{Bounds, bounds, none, highOf, lowerOf, lowersOf, lower-hit, lower-miss}
 use Rattle.lowering.specs.Count.{reached, reached-few, reached-more, reached-same}

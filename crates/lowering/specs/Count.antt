@@ -10,7 +10,7 @@ use lib.Dec.{ltb}
 use lib.ListN.{length, set}
 use lib.Seq.{getD-set-same, getD-set-other}
 use borrow.Author.Tests.{lt-ltb, le-ltb}
-use Rattle.paths.specs.Places.{at}
+use Rattle.basics.specs.Places.{at}
 use Rattle.lowering.specs.Lowered.{none}
 
 -- 1 for a bound, 0 for none

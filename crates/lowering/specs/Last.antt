@@ -9,7 +9,7 @@ use native.Mathlib.Omega.{arith}
 use native.Mathlib.Decide.{decLe, decLt}
 use lib.Dec.{ltb}
 use borrow.Author.Tests.{lt-ltb, le-ltb}
-use Rattle.paths.specs.Places.{at}
+use Rattle.basics.specs.Places.{at}
 use Rattle.paths.specs.Constraint.{Constraint, Holds, All, Fits}
 use Rattle.lowering.specs.Lowered.{none}
 use Rattle.lowering.specs.Bounded.{unit}

@@ -8,7 +8,7 @@ use native.Mathlib.Nat.{not-suc-le-zero}
 use native.Mathlib.Omega.{arith}
 use native.Mathlib.Decide.{decLt}
 use lib.ListN.{length, set}
-use Rattle.paths.specs.Places.{at}
+use Rattle.basics.specs.Places.{at}
 use Rattle.paths.specs.Constraint.{Constraint, Holds, All}
 use Rattle.lowering.specs.Lowered.{Bounds, bounds, none, highOf, lowerOf, lowersOf, lower-hit, lower-miss, lowers-size}
 use Rattle.lowering.specs.Bounded.{Lowerable, Bounded, lowerable, Broken, high-broken, high-holds}

@@ -5,7 +5,7 @@ use mathlib.Core.Logic.{_⊎_, inl, inr, _≢_}
 use mathlib.Core.List.{List, [], _∷_, List·Memᴰ, List·Memᴰ·head, List·Memᴰ·tail, List·Memᴰ·cases-cons, List·Memᴰ·not-nil}
 use Prim.Native.Nat.{ℕ, _≤_, _<_}
 use native.Mathlib.Omega.{arith}
-use Rattle.paths.specs.Places.{at}
+use Rattle.basics.specs.Places.{at}
 use Rattle.paths.specs.Constraint.{Constraint, Holds}
 use Rattle.lowering.specs.Lowered.{Bounds, none, highOf, lowerOf, lowersOf, lower-hit, lower-miss}
 use Rattle.lowering.specs.Bounded.{Lowerable, Bounded, lowerable, high-broken, high-holds, lowered-to, lowered-other, bounded-lower}

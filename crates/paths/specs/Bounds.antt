@@ -7,7 +7,7 @@ use Prim.Native.Nat.{ℕ, zero, suc, _+_, _*_, _≤_, _<_, _^_}
 use native.Mathlib.Nat.{suc-mul, zero-mul}
 use native.Mathlib.Omega.{arith}
 use lib.ListN.{length, length-set}
-use Rattle.paths.specs.Places.{at, set-under}
+use Rattle.basics.specs.Places.{at, set-under}
 use Rattle.paths.specs.Constraint.{Constraint, Fits, fits-tail}
 use Rattle.paths.specs.State.{State, lowOf, raiseOf, relaxOf, passOf, passesOf, Below}
 

@@ -7,7 +7,7 @@ use native.Mathlib.Omega.{arith}
 use lib.ListN.{length, take, drop}
 use Rattle.paths.specs.Walk.{iter, Ring, ring, ring-few}
 use Rattle.basics.specs.Tab.{tab}
-use Rattle.paths.specs.Places.{at, written, take-written, drop-written}
+use Rattle.basics.specs.Places.{at, written, take-written, drop-written}
 use Rattle.paths.specs.Constraint.{Constraint}
 use Rattle.paths.specs.State.{State, lowOf, relaxOf, passOf, hitsOf}
 use Rattle.paths.specs.Cycle.{OnCycle}

@@ -9,7 +9,7 @@ use native.Mathlib.Omega.{arith}
 use native.Mathlib.Decide.{decLt}
 use lib.ListN.{getD, length}
 use Rattle.basics.specs.Numbers.{sum}
-use Rattle.paths.specs.Places.{at}
+use Rattle.basics.specs.Places.{at}
 
 -- A difference constraint (a demand, in parts): the time of `to` plus gain is at most the time of `from` plus loss.
 pub record Constraint : Type 0 where

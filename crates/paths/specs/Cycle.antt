@@ -10,7 +10,7 @@ use Rattle.basics.specs.Pigeon.{Twice, pigeon}
 use Rattle.paths.specs.Walk.{iter, iter-add, iter-round, Among, among, Ring}
 use Rattle.basics.specs.Numbers.{sum}
 use Rattle.basics.specs.Tab.{tab, length-tab, getD-tab}
-use Rattle.paths.specs.Places.{at}
+use Rattle.basics.specs.Places.{at}
 use Rattle.paths.specs.Constraint.{Constraint, Fits, NegativeCycle}
 use Rattle.paths.specs.State.{State}
 use Rattle.paths.specs.Invariant.{Edge, Inv}

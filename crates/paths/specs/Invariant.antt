@@ -8,7 +8,7 @@ use native.Mathlib.Nat.{add-mod-right, mod-lt, not-suc-le-zero}
 use native.Mathlib.Omega.{arith}
 use native.Mathlib.Decide.{decLt, ℕ-discrete}
 use lib.ListN.{length}
-use Rattle.paths.specs.Places.{at}
+use Rattle.basics.specs.Places.{at}
 use Rattle.paths.specs.Constraint.{Constraint, Holds, nth, nth-member, member-some, Fits}
 use Rattle.paths.specs.State.{State}
 use Rattle.paths.specs.Relaxed.{Kept, Raised, Relaxed}

@@ -1,5 +1,4 @@
 pub mod Walk
-pub mod Places
 pub mod Constraint
 pub mod State
 pub mod Bounds

@@ -6,7 +6,7 @@ use mathlib.Core.List.{List·Memᴰ·not-nil, List·Memᴰ·cases-cons, List·Me
 use Prim.Native.Nat.{ℕ, suc, _+_, _≤_, _<_}
 use native.Mathlib.Omega.{arith}
 use native.Mathlib.Decide.{ℕ-discrete}
-use Rattle.paths.specs.Places.{at}
+use Rattle.basics.specs.Places.{at}
 use Rattle.paths.specs.Constraint.{Constraint, Holds, All, Fits, fits-tail}
 use Rattle.paths.specs.State.{State, relaxOf, passOf}
 use Rattle.paths.specs.Bounds.{Room, room-kept, relax-size}

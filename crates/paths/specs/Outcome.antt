@@ -9,7 +9,7 @@ use native.Mathlib.Omega.{arith}
 use lib.ListN.{length, take}
 use Rattle.paths.specs.Walk.{iter, Ring, ring}
 use Rattle.basics.specs.Tab.{tab}
-use Rattle.paths.specs.Places.{at}
+use Rattle.basics.specs.Places.{at}
 use Rattle.paths.specs.Constraint.{Constraint, All, NegativeCycle}
 use Rattle.paths.specs.State.{State, passOf, hitsOf, passesOf, passes-more, Below}
 use Rattle.paths.specs.Bounds.{Room, room-kept, passes-size}

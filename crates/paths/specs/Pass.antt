@@ -11,7 +11,7 @@ use native.Mathlib.Omega.{arith}
 use native.Mathlib.Decide.{ℕ-discrete}
 use lib.ListN.{length, drop, length-drop}
 use lib.Seq.{drop-cons}
-use Rattle.paths.specs.Places.{at}
+use Rattle.basics.specs.Places.{at}
 use Rattle.paths.specs.Constraint.{Constraint, Holds, All, nth, nth-member, Fits, fits-tail}
 use Rattle.paths.specs.State.{State, lowOf, relaxOf, passOf, hitsOf}
 use Rattle.paths.specs.State.{passesOf, Below, low-broken, low-holds, relax-miss}

@@ -6,7 +6,7 @@ use Prim.Native.Nat.{ℕ, zero, suc, _+_, _*_, _≤_}
 use native.Mathlib.Omega.{arith}
 use native.Mathlib.Decide.{ℕ-discrete}
 use lib.ListN.{length}
-use Rattle.paths.specs.Places.{at}
+use Rattle.basics.specs.Places.{at}
 use Rattle.paths.specs.Constraint.{Constraint, Fits, fits-tail}
 use Rattle.paths.specs.State.{State, relaxOf, passOf, passesOf}
 use Rattle.paths.specs.Bounds.{Room, room-kept, relax-size, passes-size}

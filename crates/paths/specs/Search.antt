@@ -7,7 +7,7 @@ use native.Mathlib.Decide.{decLt}
 use lib.ListN.{length, set, drop, length-set}
 use lib.Seq.{drop-set-lt}
 use Rattle.basics.specs.Tab.{tab}
-use Rattle.paths.specs.Places.{at, written, filled, length-written, at-written, drop-written}
+use Rattle.basics.specs.Places.{at, written, filled, length-written, at-written, drop-written}
 use Rattle.paths.specs.Cycle.{Links, OnCycle}
 
 -- What a search asks: parents of stamped vertices below n are below n, and there is a mark for each vertex.

@@ -12,7 +12,7 @@ use lib.Seq.{getD-set-same, getD-set-other}
 use borrow.Author.Count.{below-more}
 use Rattle.basics.specs.Pigeon.{Twice, pigeon}
 use Rattle.paths.specs.Walk.{iter, iter-zero, iter-add, iter-later, iter-back}
-use Rattle.paths.specs.Places.{at}
+use Rattle.basics.specs.Places.{at}
 use Rattle.paths.specs.Cycle.{Links, OnCycle, on-cycle, on-walk}
 use Rattle.paths.specs.Search.{Marked, marked-none, marked-trans, marked-set, Unmarked, Met}
 

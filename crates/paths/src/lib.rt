@@ -2,7 +2,7 @@
 ghost use mathlib.Core.Path.{_≡_};
 ghost use Prim.Native.Nat.{_<_, _≤_};
 ghost use lib.ListN.{length};
-ghost use Rattle.paths.specs.Places.{filled};
+ghost use Rattle.basics.specs.Places.{filled};
 ghost use Rattle.paths.specs.Constraint.{constraint};
 ghost use Rattle.paths.specs.State.{state};
 ghost use Rattle.paths.specs.Bounds.{Relaxable};

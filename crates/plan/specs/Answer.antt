@@ -2,7 +2,8 @@
 use mathlib.Core.Path.{_≡_}
 use mathlib.Core.List.{List}
 use Prim.Native.Nat.{ℕ, zero, suc, _+_, _-_, _≤_}
-use lib.ListN.{length, getD, take, drop}
+use lib.ListN.{length, getD, take}
+use Rattle.basics.specs.Places.{KeptFrom}
 use Rattle.table.specs.Step.{Step}
 use Rattle.table.specs.declared.Fault.the-variants as fault
 use Rattle.table.specs.declared.Read.the-variants.{Counted, Refused}
@@ -35,11 +36,6 @@ momentsIn l (suc i) = getD l i 0
 -- the starts in a room: that of clock j is at place j − 1
 abbrev pub startsIn : List ℕ → ℕ → ℕ
 startsIn l j = getD l (j - 1) 0
-
--- l′ is as long as l, and the same from place n on
-pub record KeptFrom (n : ℕ) (l l′ : List ℕ) : Type 0 where
-  pub size : length l′ ≡ length l
-  pub rest : drop n l′ ≡ drop n l
 
 -- ---- the two answers, for steps σ with clocks 1 to n, from starts that D allows
 -- A run exists: the plan in P parts to a tick is in the first places of two rooms.

@@ -16,7 +16,7 @@ use Rattle.runs.specs.Cycle.{enough-fewer}
 use Rattle.constraints.specs.Rounds.{length-rounds}
 use Rattle.constraints.specs.Sized.{Sized, momentsOf, partsOf, roundsOf}
 use Rattle.sides.specs.Covers.{covers-satisfies, covers-loop}
-use Rattle.paths.specs.Places.{at, length-written, at-written, drop-written}
+use Rattle.basics.specs.Places.{at, length-written, at-written, drop-written}
 use Rattle.paths.specs.Constraint.{All, NegativeCycle}
 use Rattle.checks.specs.InParts.{allInParts, satisfies-parts}
 use Rattle.relaxing.specs.Rows.{rows, Sound}

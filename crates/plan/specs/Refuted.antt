@@ -12,7 +12,7 @@ use Rattle.runs.specs.Parts.{gain, loss}
 use Rattle.runs.specs.Cycle.{Enough, cycle-loop}
 use Rattle.basics.specs.Numbers.{sum}
 use Rattle.paths.specs.Constraint.{Constraint, NegativeCycle, cycle-some}
-use Rattle.paths.specs.Places.{at}
+use Rattle.basics.specs.Places.{at}
 use Rattle.checks.specs.InParts.{inParts, allInParts}
 
 -- equal numbers have equal sums

@@ -11,7 +11,7 @@ use lib.Dec.{ltb}
 use lib.ListN.{length, getD, set, length-set}
 use lib.Seq.{getD-set-same, getD-set-other}
 use Rattle.sweeps.specs.Order.{forthAt}
-use Rattle.paths.specs.Places.{at, written}
+use Rattle.basics.specs.Places.{at, written}
 use Rattle.checks.specs.InParts.{edges}
 use Rattle.leads.specs.Leads.{ledBy, Leading}
 use Rattle.ways.specs.Forth.{Going}

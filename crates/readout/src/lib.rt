@@ -5,7 +5,7 @@ use led_latest::lower_led;
 ghost use mathlib.Core.Path.{_≡_};
 ghost use Prim.Native.Nat.{ℕ, _+_, _-_, _≤_, _<_};
 ghost use lib.ListN.{length};
-ghost use Rattle.paths.specs.Places.{at, written};
+ghost use Rattle.basics.specs.Places.{at, written};
 ghost use Rattle.readout.specs.Late.{Began, Rowed, Told};
 
 // a − b, or 0 where b is larger.

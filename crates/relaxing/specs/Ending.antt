@@ -13,7 +13,7 @@ use Rattle.runs.specs.Demand.{startsOf}
 use Rattle.leads.specs.Leads.{ledBy, led-few}
 use Rattle.sweeps.specs.Order.{forthOf, partnersFrom}
 use Rattle.sweeps.specs.Number.{sweep-few}
-use Rattle.paths.specs.Places.{at, filled, length-written}
+use Rattle.basics.specs.Places.{at, filled, length-written}
 use Rattle.paths.specs.Constraint.{Constraint, All, Fits}
 use Rattle.paths.specs.State.{State, state, passOf, hitsOf, passesOf, passes-none, passes-more}
 use Rattle.paths.specs.Bounds.{SameSize, Under, room-kept}

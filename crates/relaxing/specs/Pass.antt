@@ -13,7 +13,7 @@ use Rattle.runs.specs.Tools.{Every, every-append}
 use Rattle.sweeps.specs.Order.{forthOf, backOf, upperOf, partnersFrom}
 use Rattle.leads.specs.Leads.{ledBy, led-few, Leading}
 use Rattle.sweeps.specs.Number.{sweep-few}
-use Rattle.paths.specs.Places.{at}
+use Rattle.basics.specs.Places.{at}
 use Rattle.paths.specs.Constraint.{Constraint, All}
 use Rattle.paths.specs.State.{State, passOf, hitsOf, pass-append, hits-append}
 use Rattle.paths.specs.Bounds.{Room, Under}

@@ -7,7 +7,7 @@ use Prim.Native.Nat.{ℕ, _+_, _*_, _≤_, _<_, _^_}
 use native.Mathlib.Omega.{arith}
 use lib.ListN.{length, take}
 use Rattle.runs.specs.declared.Demand.{Demand}
-use Rattle.paths.specs.Places.{at, filled, length-written, at-written}
+use Rattle.basics.specs.Places.{at, filled, length-written, at-written}
 use Rattle.paths.specs.Constraint.{Constraint, All, Fits, NegativeCycle}
 use Rattle.paths.specs.State.{State, state, passOf, passesOf, passes-none, passes-more, Below}
 use Rattle.paths.specs.Bounds.{SameSize, Room, room-kept, Under}

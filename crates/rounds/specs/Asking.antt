@@ -51,6 +51,14 @@ module _ (bytes : List ℕ) (v : Start) (a : Read) (e : a ≡ readOf bytes) wher
         member : List·Memᴰ s (cycle (listing bytes))
         member = rw (represents .same) at m
 
+    -- Its clocks, as many as were read, and its steps are those that the bytes write down.
+    pub accepted-same : (n ≡ t .clocks) × (t .clocks ≡ listing bytes .clocks) × (stepsOf t ≡ cycle (listing bytes))
+    accepted-same = (
+      accepted-written bytes small n L g (sym e ∙ q) .clocks ∙ sym (represents .clocks),
+      represents .clocks,
+      represents .same,
+    )
+
     pub answers-counted : (r : Count) → Counts (t .clocks) (startsOf v) (stepsOf t) r → Answers (readOf bytes) bytes v r
     answers-counted r h =
         rw (sym e ∙ q) (counts-same r (represents .clocks) (represents .same) h)

@@ -1,5 +1,6 @@
 -- From what the search finds to the answer.
-use mathlib.Core.Path.{_≡_}
+use mathlib.Core.Path.{_≡_, sym}
+use mathlib.Core.Bool.{Bool, true, false}
 use mathlib.Core.Logic.{_↔_, Iff·trans}
 use mathlib.Core.List.{List, []}
 use Prim.Native.Nat.{ℕ, _+_, _-_, _<_}
@@ -18,9 +19,9 @@ use Rattle.effects.specs.Known.{Known, known-none, known-count}
 use Rattle.effects.specs.Starts.{Permits, startsFor, permits, exists-begins, rounds-exist, starts-exist}
 use Rattle.rounds.specs.declared.Count.the-variants.{Finite, Endless}
 use Rattle.rounds.specs.Answer.{Counts}
-use Rattle.rounds.specs.First.{good-tabled}
-use Rattle.climbing.specs.Climbing.{Tabled}
-use Rattle.climbing.specs.Ways.{Always, Down}
+use Rattle.joins.specs.Rounds.{Tabled, good-tabled}
+use Rattle.climbing.specs.LeftPart.{clash}
+use Rattle.climbing.specs.Ways.{Always, Unending, Down}
 
 -- ---- The answers
 
@@ -82,3 +83,16 @@ module _ (table : Table) (good : Good table) (v : Start) where
   -- or the count is found.
   pub counts-finite : (w place c : ℕ) (m : List ℕ) → Down w M τ place 0 c m → Counts n D τ (Finite c)
   counts-finite w place c m h = known-counts c (h .counted .known) (omega (arith, h .counted .small))
+
+-- What the search finds of a table: the count, or that every number of rounds runs, with an effect at a place of the row m whose left part
+-- tells from where.
+pub record Finds (t : Table) (v : Start) (endless : Bool) (place count : ℕ) (m : List ℕ) : Type 0 where
+  pub counted : endless ≡ false → Counts (t .clocks) (startsOf v) (stepsOf t) (Finite count)
+  pub unending : endless ≡ true → Unending (t .clocks + 1) (startsFor (t .clocks + 1) v) (stepsOf t) place m
+
+module _ {t : Table} {v : Start} {place count : ℕ} {m : List ℕ} where
+  pub finds-count : Counts (t .clocks) (startsOf v) (stepsOf t) (Finite count) → Finds t v false place count m
+  finds-count h = record { counted = λ q. h; unending = λ q. absurd (clash q) }
+
+  pub finds-unending : Unending (t .clocks + 1) (startsFor (t .clocks + 1) v) (stepsOf t) place m → Finds t v true place count m
+  finds-unending h = record { counted = λ q. absurd (clash (sym q)); unending = λ q. h }

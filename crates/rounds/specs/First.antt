@@ -7,7 +7,6 @@ use Prim.Native.Nat.{ℕ, _*_, _^_, _<_}
 use native.Mathlib.Omega.{arith}
 use Rattle.table.specs.declared.Table.{Table}
 use Rattle.table.specs.Step.{Step, stepsOf, Good}
-use Rattle.table.specs.Steps.{length-steps}
 use Rattle.runs.specs.Run.{copies}
 use Rattle.runs.specs.Copies.{copies-one}
 use Rattle.zones.specs.Matrix.{Matrix}
@@ -17,23 +16,16 @@ use Rattle.effects.specs.Known.{rounds-one}
 use Rattle.effects.specs.Tells.{Tells}
 use Rattle.effects.specs.Whole.{whole}
 use Rattle.gluing.specs.Laying.{effectAt}
-use Rattle.admitting.specs.Grid.{EffectOf}
+use Rattle.effects.specs.Stored.{EffectOf}
+use Rattle.joins.specs.Rounds.{Tabled, good-tabled}
 use Rattle.climbing.specs.LeftPart.{clash}
-use Rattle.climbing.specs.Climbing.{Tabled, Reached}
+use Rattle.climbing.specs.Climbing.{Reached}
 
 -- Where `ok` is true, one round of τ runs from the starts that D allows, and its effect is at the first place of m; where it is
 -- false, it does not.
 pub record First (w : ℕ) (D : Matrix) (τ : List Step) (ok : Bool) (m : List ℕ) : Type 0 where
   pub runs : ok ≡ true → Reached w D τ 0 m
   pub stuck : ok ≡ false → ¬ Begins D τ
-
--- The steps of an accepted table.
-pub good-tabled : (t : Table) → Good t → Tabled (stepsOf t)
-good-tabled t good = record {
-  fair = good .fair;
-  some = omega (arith, length-steps t, good .steps-some);
-  few = omega (arith, length-steps t, good .steps-few);
-}
 
 module _ (table : Table) (good : Good table) (w : ℕ) (m : List ℕ) where
   abbrev τ : List Step

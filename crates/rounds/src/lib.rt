@@ -19,6 +19,7 @@ ghost use Rattle.effects.specs.Whole.{Side};
 ghost use Rattle.joins.specs.Round.{UsesAll};
 ghost use Rattle.rounds.specs.First.{First};
 ghost use Rattle.rounds.specs.Answer.{Counts, Answers};
+ghost use Rattle.rounds.specs.Counting.{Finds};
 
 // The answer: the greatest number of rounds that has a run, that every number has one, or a refusal.
 pub enum Count {
@@ -47,26 +48,59 @@ fn first_round(
     admits(row, 0, 14, left, start, side)
 }
 
-// The count of an accepted table, whose clocks are looked at and no others.
+// What the search finds: that every number of rounds runs, and a place of the row with an effect whose left part is settled; or the count.
+pub struct Found {
+    pub endless: bool,
+    pub place: usize,
+    pub count: u64,
+}
+
+// The search for the count of an accepted table, whose clocks are looked at and no others, in lent rows.
+pub fn search(row: &mut [u64], out: &mut [u64], left: &mut [u64], t: Table, start: Start) -> Found
+    requires { ⌜ (length (now row) ≡ 4900) × (length (now out) ≡ 441) × (length (now left) ≡ 441) × Good t
+        × UsesAll (t .clocks + 1) t ⌝ }
+    ensures { λ r. ⌜ Finds t start (r .endless) (r .place) (r .count) (now (row .exit)) ⌝ }
+{
+    let side = t.clocks + 1;
+    let one = first_round(row, out, left, t, start, side);
+    if !one {
+        return Found {
+            endless: false,
+            place: 0,
+            count: 0,
+        };
+    }
+    let top = up(row, out, left, start, side);
+    let place = top.place;
+    let settled = top.settled;
+    if place == 24 {
+        return Found {
+            endless: true,
+            place: settled,
+            count: 0,
+        };
+    }
+    let count = down(row, out, left, start, place, top.power, side);
+    Found {
+        endless: false,
+        place: place,
+        count: count,
+    }
+}
+
+// The count of an accepted table.
 fn rounds_of(t: Table, start: Start) -> Count
     requires { ⌜ Good t × UsesAll (t .clocks + 1) t ⌝ }
     ensures { λ r. ⌜ Counts (t .clocks) (startsOf start) (stepsOf t) r ⌝ }
 {
-    let side = t.clocks + 1;
     let mut row: [u64; 4900] = [0; 4900];
     let mut out: [u64; 441] = [0; 441];
     let mut left: [u64; 441] = [0; 441];
-    let one = first_round(&mut row, &mut out, &mut left, t, start, side);
-    if !one {
-        return Count::Finite(0);
-    }
-    let top = up(&mut row, &mut out, &mut left, start, side);
-    let place = top.place;
-    if place == 24 {
+    let found = search(&mut row, &mut out, &mut left, t, start);
+    if found.endless {
         return Count::Endless;
     }
-    let count = down(&mut row, &mut out, &mut left, start, place, top.power, side);
-    Count::Finite(count)
+    Count::Finite(found.count)
 }
 
 // The answer to the question "rounds", for a variant of the start.

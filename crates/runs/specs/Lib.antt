@@ -33,3 +33,7 @@ pub mod Start
 pub mod TwoMoments
 -- whole ticks
 pub mod Whole
+-- readings from which every number of rounds runs
+pub mod Lasting
+-- both ends of a run
+pub mod Ends

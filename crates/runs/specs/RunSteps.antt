@@ -88,12 +88,12 @@ run-steps P σ t s u f h r = goes-steps P (u 0) t s (λ j. 0) 0 σ u f (starting
 
 -- ---- from configurations to a run
 -- the times of the configurations, from the first on
-times : {P : ℕ} {σ : List Step} {u v : Config} → Steps P σ u v → ℕ → ℕ
+unfoldable pub times : {P : ℕ} {σ : List Step} {u v : Config} → Steps P σ u v → ℕ → ℕ
 times {u = u} (stay r) i = u 0
 times {u = u} (move m r) zero = u 0
 times (move m r) (suc i) = times r i
 
-times-first : {P : ℕ} {σ : List Step} {u v : Config} (r : Steps P σ u v) → times r 0 ≡ u 0
+pub times-first : {P : ℕ} {σ : List Step} {u v : Config} (r : Steps P σ u v) → times r 0 ≡ u 0
 unfolding times
 times-first (stay r) = refl
 times-first (move m r) = refl
@@ -140,6 +140,12 @@ steps-run P σ s u v f h r = (t, record { start = zero-start; goes = steps-goes 
 
     each : (n : ℕ) → times r n ≡ u 0 + t (0 + n)
     each n = let e : 0 + n ≡ n = omega arith in rw e (omega (arith, times-later r n))
+
+-- Its times are those of the configurations.
+pub steps-run-times : (P : ℕ) (σ : List Step) (s : ℕ → ℕ) (u v : Config) (f : Fairs σ) (h : Starting s u) (r : Steps P σ u v)
+    (n : ℕ) → times r n ≡ u 0 + steps-run P σ s u v f h r .0 n
+unfolding steps-run
+steps-run-times P σ s u v f h r n = omega (arith, times-later r n)
 
 -- ---- a start for any readings, and readings for any start
 -- the start with readings s, as early as can be

@@ -18,7 +18,7 @@ use Rattle.last_resets.specs.Distance.{lastOf, last-none}
 use Rattle.sweeps.specs.Order.{cell, sideOf, forthAt, forthOf}
 use Rattle.sweeps.specs.Covered.{forth-among}
 use Rattle.sweeps.specs.Ends.{OfClock, side-clock, clock-side, last-past}
-use Rattle.paths.specs.Places.{at}
+use Rattle.basics.specs.Places.{at}
 use Rattle.paths.specs.Constraint.{Constraint, Holds}
 use Rattle.checks.specs.InParts.{edge, edges}
 use Rattle.lowering.specs.Lowered.{none}

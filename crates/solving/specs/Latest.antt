@@ -18,7 +18,7 @@ use Rattle.leads.specs.Leads.{ledBy}
 use Rattle.sweeps.specs.Order.{sideOf, leadsAt, forthAt, forthOf, backOf, returnOf, partnersFrom}
 use Rattle.sweeps.specs.Covered.{among-forth, back-among}
 use Rattle.sweeps.specs.Ends.{ToStart, side-ends, partners-ends, start-listed}
-use Rattle.paths.specs.Places.{at}
+use Rattle.basics.specs.Places.{at}
 use Rattle.paths.specs.Constraint.{Constraint, Holds, All, Fits}
 use Rattle.checks.specs.InParts.{edge, edges}
 use Rattle.checks.specs.Checks.{unit, slight-fits, slight-gains}

@@ -6,7 +6,7 @@ use native.Mathlib.Omega.{arith}
 use native.Mathlib.Decide.{decLe}
 use lib.ListN.{length, drop, replicate, length-replicate, getD-replicate}
 use Rattle.basics.specs.Tab.{tab, is-tab, length-tab, getD-tab}
-use Rattle.paths.specs.Places.{at, written, filled, length-written, at-written, at-written-rest}
+use Rattle.basics.specs.Places.{at, written, filled, length-written, at-written, at-written-rest}
 use Rattle.paths.specs.Walk.{ring-few}
 use Rattle.paths.specs.Constraint.{Constraint, All}
 use Rattle.paths.specs.State.{State, state}

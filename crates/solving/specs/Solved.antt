@@ -3,7 +3,7 @@ use mathlib.Core.Path.{_≡_}
 use mathlib.Core.List.{List}
 use Prim.Native.Nat.{ℕ, _+_, _*_, _-_, _≤_, _<_}
 use lib.ListN.{length, take, drop}
-use Rattle.paths.specs.Places.{written}
+use Rattle.basics.specs.Places.{written}
 use Rattle.paths.specs.Constraint.{All, NegativeCycle}
 use Rattle.relaxing.specs.Rows.{Rows, moments, constraintsOf}
 use Rattle.solving.specs.declared.Solution.{Solution}

@@ -11,7 +11,7 @@ use Rattle.table.specs.declared.Table.{Table}
 use Rattle.runs.specs.declared.Start.the-variants.{LogIn}
 use Rattle.runs.specs.Demand.{startsOf, Exists}
 use Rattle.constraints.specs.Sized.{Sized, momentsOf, partsOf, roundsOf}
-use Rattle.paths.specs.Places.{at, filled, length-written, at-written, at-written-rest}
+use Rattle.basics.specs.Places.{at, filled, length-written, at-written, at-written-rest}
 use Rattle.leads.specs.Leads.{ledBy, Leading}
 use Rattle.ways.specs.Forth.{Going}
 use Rattle.relaxing.specs.Rows.{going-low, going-up}

@@ -20,7 +20,7 @@ use Rattle.last_resets.specs.Distance.{distancesOf}
 use Rattle.leads.specs.Leads.{ledBy}
 use Rattle.sweeps.specs.Order.{forthOf, backOf, partnersFrom}
 use Rattle.sweeps.specs.Ends.{start-listed}
-use Rattle.paths.specs.Places.{at}
+use Rattle.basics.specs.Places.{at}
 use Rattle.paths.specs.Constraint.{Constraint, Holds, All}
 use Rattle.checks.specs.InParts.{inParts, allInParts, edge, edges, edges-scaled}
 use Rattle.relaxing.specs.Rows.{constraintsOf}

@@ -11,3 +11,5 @@ pub mod Codes
 pub mod Cells
 pub mod Building
 pub mod Lines
+pub mod Grid
+pub mod InParts

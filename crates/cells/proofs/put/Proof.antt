@@ -14,7 +14,7 @@ use Rattle.runs.specs.declared.Demand.{Demand}
 use Rattle.runs.specs.Demand.{ticksOf}
 use Rattle.cells.specs.Lines.{strictOf, cellsOf, Small}
 use Rattle.cells.specs.Writing.{wrote-one}
-use Rattle.cells.proofs.Bits.{small-fits, read-back, fits}
+use Rattle.basics.specs.Signed.{small-fits, read-back, fits}
 use Rattle.cells.proofs.put.Statement.{statement}
 use Rattle.cells.proofs.put.Tie as tie
 
@@ -94,7 +94,7 @@ returns c =
     wrote-one (stored (c .before .before .before .before .args .row .now) (c .before .before .before .before .args .q) d
     (read-back _ _ (c .before .before .before .signed .ensures) (small-fits (d .from) (omega arith)))
     (read-back _ _ (c .before .before .signed2 .ensures) (small-fits (d .to) (omega arith)))
-    (read-back _ _ (c .before .bound-of .ensures) (fits (d .up) (d .down) (h .up) (h .down)))
+    (read-back _ _ (c .before .bound-of .ensures) (fits (d .up) (d .down) (omega (arith, h .up)) (omega (arith, h .down))))
     (read-back _ _ (c .strict-of .ensures) (flag-fits (d .strict)))) refl
 
 pub put-spec : {M : Type 1} → statement M

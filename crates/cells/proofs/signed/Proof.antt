@@ -1,7 +1,7 @@
 -- A moment is small, so that the cast keeps it.
 use borrow.Author.Needs.{needs}
 use native.Mathlib.Omega.{arith}
-use Rattle.cells.proofs.Bits.{small}
+use Rattle.basics.specs.Signed.{small}
 use Rattle.cells.proofs.signed.Statement.{statement}
 use Rattle.cells.proofs.signed.Tie as tie
 

@@ -48,7 +48,7 @@ returns c =
     let j = c .before .before .before in
     let l = j .before .before .before .before in
     let s = l .before .before .before .before in
-    climbs-top (s .args .side) _ _ _ _ _ (omega arith) (l .loop .inv .1) (λ τ h. (
+    climbs-top (s .args .side) _ _ _ _ _ _ (omega arith) (l .loop .inv .1) (λ τ h. (
       l .loop .inv .5 τ h,
       up-stuck (s .args .side) (s .pre .3) _ τ _ _ (l .loop .inv .5 τ h) (omega arith) _ _ (j .join .ensures) (not-true _ (c .if1 .taken)),
     ))
@@ -71,7 +71,7 @@ returns-2 c =
     let j = e .before .before .before in
     let l = j .before .before .before .before in
     let s = l .before .before .before .before in
-    climbs-endless (s .args .side) _ _ _ _ (λ τ h.
+    climbs-endless (s .args .side) _ _ _ _ _ (λ τ h.
     up-settled (s .args .side) (s .pre .3) _ τ _ _ (l .loop .inv .5 τ h) (omega arith) _
     (up-runs (s .args .side) (s .pre .3) _ τ _ _ (l .loop .inv .5 τ h) (omega arith) _ _ (j .join .ensures) (not-false _ (e .if1 .left)))
     (c .before .same-left .ensures .0 (c .if2 .taken)))
@@ -102,7 +102,7 @@ returns-3 c =
     let j = e .before .before .before in
     let l = j .before .before .before .before in
     let s = l .before .before .before .before in
-    climbs-top (s .args .side) _ _ _ _ _ (omega arith) (l .loop .inv .1) (λ τ h.
+    climbs-top (s .args .side) _ _ _ _ _ _ (omega arith) (l .loop .inv .1) (λ τ h.
     let d = up-runs (s .args .side) (s .pre .3) _ τ _ _ (l .loop .inv .5 τ h) (omega arith) _ _ (j .join .ensures) (not-false _ (e .if1 .left)) in (
       l .loop .inv .5 τ h,
       up-refused _ τ (l .loop .i) _ (a .admits .ensures _ (up-effect (s .args .side) (s .pre .3) _ τ _ _ (l .loop .inv .5 τ h) (omega arith) _ d))
@@ -158,7 +158,7 @@ returns-4 : tie.Need-returns-4 Inv-loop μ-loop
 returns-4 c =
     let l = c .before in
     let s = l .before .before .before .before in
-    climbs-endless (s .args .side) _ _ _ _ (λ τ h. up-limit (s .args .side) (s .pre .3) _ τ (l .loop .i) _ (l .loop .inv .5 τ h) (omega arith))
+    climbs-endless (s .args .side) _ _ _ _ _ (λ τ h. up-limit (s .args .side) (s .pre .3) _ τ (l .loop .i) _ (l .loop .inv .5 τ h) (omega arith))
 
 pub up-spec : {M : Type 1} → statement M
 up-spec =

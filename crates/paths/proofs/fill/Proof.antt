@@ -2,7 +2,7 @@
 use mathlib.Core.Path.{_≡_, refl}
 use Prim.Native.Nat.{_-_, _≤_}
 use lib.ListN.{length, length-set}
-use Rattle.paths.specs.Places.{filled, written-none, written-more}
+use Rattle.basics.specs.Places.{filled, written-none, written-more}
 use borrow.Author.Needs.{needs}
 use native.Mathlib.Omega.{arith}
 use Rattle.paths.proofs.fill.Statement.{statement}

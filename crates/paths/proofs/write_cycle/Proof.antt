@@ -4,7 +4,7 @@ use Prim.Native.Nat.{ℕ, _-_, _≤_, _<_}
 use native.Mathlib.Numerals.{add-one}
 use lib.ListN.{length, length-set}
 use Rattle.paths.specs.Walk.{iter, Ring, ring-more, ring-end}
-use Rattle.paths.specs.Places.{at, written, written-none, written-more, written-over}
+use Rattle.basics.specs.Places.{at, written, written-none, written-more, written-over}
 use native.Mathlib.Omega.{arith}
 use Rattle.paths.proofs.write_cycle.Statement.{statement}
 use Rattle.paths.proofs.write_cycle.Tie as tie

@@ -1,4 +1,4 @@
--- The places of a list of numbers, and a list whose first places are written.
+-- The places of a list of numbers, a list whose first places are written, and one that is kept from a place on.
 use mathlib.Core.Path.{_≡_, refl, sym, ap, _∙_}
 use mathlib.Core.List.{List, _++_}
 use Prim.Native.Nat.{ℕ, suc, _+_, _-_, _≤_, _<_}
@@ -20,6 +20,11 @@ written f n l = tab f n ++ drop n l
 -- l with v in its first n places, the rest kept.
 abbrev pub filled : ℕ → ℕ → List ℕ → List ℕ
 filled v n l = written (λ k. v) n l
+
+-- l′ is as long as l, and the same from place n on.
+pub record KeptFrom (n : ℕ) (l l′ : List ℕ) : Type 0 where
+  pub size : length l′ ≡ length l
+  pub rest : drop n l′ ≡ drop n l
 
 -- ---- lengths and places
 pub length-written : (f : ℕ → ℕ) (n : ℕ) (l : List ℕ) → n ≤ length l → length (written f n l) ≡ length l

@@ -1,0 +1,5 @@
+-- what is answered
+pub mod Answer
+-- from the search to the answer
+pub mod Question
+pub mod Found
