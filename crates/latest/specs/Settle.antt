@@ -1,17 +1,17 @@
 -- Checks back and forth in turn, until those forth lower nothing.
 use mathlib.Core.Path.{_≡_, refl, sym, subst}
 use mathlib.Core.Bool.{Bool, true, false, true≢false, cond}
-use mathlib.Core.List.{List}
+use mathlib.Core.List.{List, _++_}
 use Prim.Native.Nat.{ℕ, _+_, _*_, _<_}
 use native.Mathlib.Omega.{arith}
 use Rattle.paths.specs.Constraint.{Constraint}
 use Rattle.lowering.specs.Bounded.{Bounded, bounded-some}
 use Rattle.lowering.specs.Outcome.{total, Settled, Falling, Greatest, falling-first, falling-then, falling-among}
-use Rattle.latest.specs.Steps.{forthEdges, backEdges, stepEdges, left-member, either-settled}
+use Rattle.latest.specs.Steps.{forthEdges, left-member, either-settled}
 use Rattle.latest.specs.Descent.{Descended, descended-settled}
-use Rattle.latest.specs.Ascent.{Ascended}
+use Rattle.latest.specs.Ascending.{Ascended}
 
-module _ (low up far : List ℕ) (L n K : ℕ) where
+module _ (low far : List ℕ) (L n K : ℕ) (back : List Constraint) where
   -- the number of moments
   abbrev N : ℕ
   N = K + n + 1
@@ -19,11 +19,8 @@ module _ (low up far : List ℕ) (L n K : ℕ) where
   abbrev forth : List Constraint
   forth = forthEdges low far L n K
 
-  abbrev back : List Constraint
-  back = backEdges up far L n K
-
   abbrev cs : List Constraint
-  cs = stepEdges low up far L n K
+  cs = forth ++ back
 
   -- h says whether to go on
   pub record Settling (l₀ l : List ℕ) (h : Bool) : Type 0 where
@@ -34,10 +31,9 @@ module _ (low up far : List ℕ) (L n K : ℕ) where
   abbrev pub measure : List ℕ → Bool → ℕ
   measure l h = total l * 2 + cond h 1 0
 
-  -- after the first checks forth
-  pub settling-first : (l₀ l : List ℕ) (r : Bool) → Ascended low up far L n K l₀ l r → Settling l l true
-  settling-first l₀ l r a =
-      record { falling = falling-first N cs l (a .falling .bounded); settled = λ p. absurd (true≢false p) }
+  -- at first
+  pub settling-begin : (l : List ℕ) → Bounded N cs l → Settling l l true
+  settling-begin l b = record { falling = falling-first N cs l b; settled = λ p. absurd (true≢false p) }
 
   -- after a glide
   pub settling-glide : (l₀ l : List ℕ) (h : Bool) → Settling l₀ l h → (l′ : List ℕ) → Falling N cs l l′ → Settling l₀ l′ true
@@ -58,7 +54,7 @@ module _ (low up far : List ℕ) (L n K : ℕ) where
       pub all-able : Bounded N cs l₁
       all-able = down .bounded
 
-      module _ (l₂ : List ℕ) (r : Bool) (a : Ascended low up far L n K l₁ l₂ r) where
+      module _ (l₂ : List ℕ) (r : Bool) (a : Ascended low far L n K back l₁ l₂ r) where
         pub settling-next : Settling l₀ l₂ r
         settling-next =
             record {
@@ -75,8 +71,12 @@ module _ (low up far : List ℕ) (L n K : ℕ) where
             go true q = rw q (omega (arith, a .loud q, down .sum))
             go false q = rw q (omega (arith, a .falling .sum, down .sum))
 
-    -- at the end, all together
-    module _ (begin : List ℕ) (r : Bool) (a : Ascended low up far L n K begin l₀ r) where
+    -- at the end
+    pub settling-done : h ≡ false → Greatest N cs l₀ l
+    settling-done p = record { falling = u .falling; settled = u .settled p }
+
+    -- after checks forth before all
+    module _ (begin : List ℕ) (r : Bool) (a : Ascended low far L n K back begin l₀ r) where
       pub settling-falling : Falling N cs begin l
       settling-falling = falling-then N cs begin l₀ l (a .falling) (u .falling)
 

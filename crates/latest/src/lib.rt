@@ -8,12 +8,13 @@ use last_resets::preceding;
 use last_resets::step_of;
 ghost use mathlib.Core.Path.{_≡_};
 ghost use Prim.Native.Nat.{_+_, _-_, _%_, _≤_, _<_};
+ghost use Rattle.sweeps.specs.Order.{upperAt};
 ghost use Rattle.ways.specs.Forth.{Going};
 ghost use Rattle.lowering.specs.Bounded.{Bounded};
 ghost use Rattle.lowering.specs.Outcome.{Falling, Greatest};
 ghost use Rattle.latest.specs.Steps.{forthEdges, backEdges, stepEdges};
 ghost use Rattle.latest.specs.Descent.{Descended};
-ghost use Rattle.latest.specs.Ascent.{Stepped, Ascended};
+ghost use Rattle.latest.specs.Ascending.{Stepped, Ascended};
 ghost use Rattle.latest.specs.Glide.{Risen};
 
 // No moment: there are at most so many.
@@ -84,7 +85,8 @@ fn ascend_step(
 ) -> Way
     requires { ⌜ Going (now low) (now far) steps clocks total × Going (now up) (now far) steps clocks total × (i < total)
         × (s ≡ i % steps) × Bounded (total + clocks + 1) (stepEdges (now low) (now up) (now far) steps clocks total) (now late) ⌝ }
-    ensures { λ r. ⌜ Stepped (now (low .entry)) (now (up .entry)) (now (far .entry)) steps clocks total i hit
+    ensures { λ r. ⌜ Stepped (now (low .entry)) (now (far .entry)) steps clocks total
+        (upperAt (now (up .entry)) (now (far .entry)) steps clocks total) (backEdges (now (up .entry)) (now (far .entry)) steps clocks total) i hit
         (now (late .entry)) (now (late .exit)) (r .hit) (r .next) ⌝ }
 {
     let lowest = bound_side(true, up, far, clocks, total, s, i, late, NEVER);
@@ -124,7 +126,7 @@ fn ascend(
 ) -> bool
     requires { ⌜ Going (now low) (now far) steps clocks total × Going (now up) (now far) steps clocks total
         × Bounded (total + clocks + 1) (stepEdges (now low) (now up) (now far) steps clocks total) (now late) ⌝ }
-    ensures { λ r. ⌜ Ascended (now (low .entry)) (now (up .entry)) (now (far .entry)) steps clocks total
+    ensures { λ r. ⌜ Ascended (now (low .entry)) (now (far .entry)) steps clocks total (backEdges (now (up .entry)) (now (far .entry)) steps clocks total)
         (now (late .entry)) (now (late .exit)) r ⌝ }
 {
     let mut way = Way {

@@ -1,54 +1,34 @@
--- The checks forth, from step to step: the guards of each step from above, then those between two clocks. Where they lower a bound, the
--- checks back from the step may follow at once.
-use mathlib.Core.Path.{_≡_, refl, sym, ap, subst, _∙_}
-use mathlib.Core.Bool.{Bool, true, false, true≢false}
-use mathlib.Core.Logic.{_⊎_, inl, inr}
+-- The checks forth with the guards from above and those between two clocks as the demands that each step has of its own.
+use mathlib.Core.Path.{_≡_, refl, sym}
+use mathlib.Core.Bool.{Bool, true}
 use mathlib.Core.List.{List, [], _++_, List·Memᴰ, append-nil}
-use Prim.Native.Nat.{ℕ, _+_, _*_, _-_, _%_, _≤_, _<_}
-use native.Mathlib.Nat.{mul-le-mul-right}
-use native.Mathlib.Omega.{arith}
-use native.Mathlib.Decide.{ℕ-discrete}
+use Prim.Native.Nat.{ℕ, _+_, _%_, _≤_, _<_}
 use Rattle.table.specs.declared.Table.{Table}
 use Rattle.runs.specs.declared.Demand.{Demand}
 use Rattle.sweeps.specs.Order.{sideOf, leadsAt, backAt}
 use Rattle.paths.specs.Constraint.{Constraint}
 use Rattle.checks.specs.InParts.{edges}
-use Rattle.lowering.specs.Lowered.{Bounds, bounds, lowersOf}
+use Rattle.lowering.specs.Lowered.{bounds, lowersOf}
 use Rattle.lowering.specs.Bounded.{Bounded, bounded-some}
-use Rattle.lowering.specs.Outcome.{total, Settled, Lowers, Falling, falling-first, falling-then, falling-among, checks-lowers, checks-falling}
 use Rattle.bounding.specs.Turns.{afterOf, Able, Turn, turn-first, turn-able, turn-more, turn-last}
-use Rattle.latest.specs.Steps.{forthEdges, left-member, right-member}
+use Rattle.latest.specs.Steps.{forthEdges, right-member}
 use Rattle.latest.specs.Descent.{Descended}
+use Rattle.latest.specs.Ascending.{Stepped, Ascending, Ascended}
+use Rattle.latest.specs.Ascending as ascending
 use Rattle.led_latest.specs.Steps.{ledBackEdges, ledEdges, led-back-member, led-back-settled}
 
 module _ (low up : List ℕ) (T : Table) (far : List ℕ) (L n K : ℕ) where
-  -- the number of moments
-  abbrev N : ℕ
-  N = K + n + 1
-
   abbrev own : ℕ → List Demand
   own i = backAt up T far L n K i
-
-  abbrev forth : List Constraint
-  forth = forthEdges low far L n K
 
   abbrev back : List Constraint
   back = ledBackEdges up T far L n K
 
-  abbrev cs : List Constraint
-  cs = ledEdges low up T far L n K
+  member : (i : ℕ) → i < K → (c : Constraint) → List·Memᴰ c (edges (own i)) → List·Memᴰ c (ledEdges low up T far L n K)
+  member i l c m = right-member (forthEdges low far L n K) back c (led-back-member up T far L n K i l c m)
 
-  member : (i : ℕ) → i < K → (c : Constraint) → List·Memᴰ c (edges (own i)) → List·Memᴰ c cs
-  member i l c m = right-member forth back c (led-back-member up T far L n K i l c m)
-
-  -- What the checks of step i give, after checks of which h says whether one has lowered a bound: r says it of these too, and step
-  -- `next` is the one to go on with. Where these have lowered none, all is as it was, and the demands of the step hold.
-  pub record Stepped (i : ℕ) (h : Bool) (l l′ : List ℕ) (r : Bool) (next : ℕ) : Type 0 where
-    pub falling : Falling N cs l l′
-    pub within : next ≤ i + 1
-    pub either : ((r ≡ h) × (l′ ≡ l) × (next ≡ i + 1) × Settled (edges (own i)) l′) ⊎ ((r ≡ true) × (total l′ < total l))
-
-  module _ (i s : ℕ) (inside : i < K) (e : s ≡ i % L) (h : Bool) (l : List ℕ) (b : Bounded N cs l) where
+  -- the checks of step i
+  module _ (i s : ℕ) (inside : i < K) (e : s ≡ i % L) (h : Bool) (l : List ℕ) (b : Bounded (K + n + 1) (ledEdges low up T far L n K) l) where
     abbrev side : List Demand
     side = sideOf true up far K s i 1 n
 
@@ -59,12 +39,16 @@ module _ (low up : List ℕ) (T : Table) (far : List ℕ) (L n K : ℕ) where
     same = rw e refl
 
     able : Able (own i) l
-    able = record { moments = N; bounded = bounded-some N cs (edges (own i)) l (member i inside) b }
+    able =
+        record {
+          moments = K + n + 1;
+          bounded = bounded-some (K + n + 1) (ledEdges low up T far L n K) (edges (own i)) l (member i inside) b;
+        }
 
     pub upper-able : Able (sideOf true up far K s i 1 n) l
     upper-able = turn-able (own i) (bounds l 0) (own i) side led same (bounds l 0) (turn-first (own i) (bounds l 0) able)
 
-    module _ (l₀ : List ℕ) (m₀ m₁ : ℕ) (few : N ≤ m₀)
+    module _ (l₀ : List ℕ) (m₀ m₁ : ℕ) (few : K + n + 1 ≤ m₀)
         (c₀ : bounds l₀ m₁ ≡ afterOf (sideOf true up far K s i 1 n) (bounds l m₀)) where
       sided : Turn (own i) (bounds l m₀) led (bounds l₀ m₁)
       sided =
@@ -73,129 +57,25 @@ module _ (low up : List ℕ) (T : Table) (far : List ℕ) (L n K : ℕ) where
       pub leads-able : Able (leadsAt T far K s i) l₀
       leads-able = sided .able
 
-      -- m is not below N where nothing was lowered
       module _ (l₁ : List ℕ) (m : ℕ) (c : bounds l₁ m ≡ afterOf (leadsAt T far K s i) (bounds l₀ m₁)) where
         after : bounds l₁ m ≡ lowersOf (edges (own i)) (bounds l m₀)
         after =
             turn-last (own i) (bounds l m₀) (bounds l₁ m)
             (turn-more (own i) (bounds l m₀) led led [] (sym (append-nil led)) (bounds l₀ m₁) sided (bounds l₁ m) c)
 
-        lowers : Lowers N (edges (own i)) (bounds l m₀) (bounds l₁ m)
-        lowers = checks-lowers N cs (bounds l m₀) (bounds l₁ m) b (edges (own i)) (member i inside) after
+        pub stepped-quiet : m₀ ≤ m → Stepped low far L n K own back i h l l₁ h (i + 1)
+        stepped-quiet = ascending.stepped-quiet low far L n K own back i h l b (member i inside) l₁ m₀ m few after
 
-        fell : Falling N cs l l₁
-        fell = checks-falling N cs (bounds l m₀) (bounds l₁ m) b (edges (own i)) (member i inside) after
+        pub stepped-hit : m < m₀ → Stepped low far L n K own back i h l l₁ true (i + 1)
+        stepped-hit = ascending.stepped-hit low far L n K own back i h l b (member i inside) l₁ m₀ m few after
 
-        pub stepped-quiet : m₀ ≤ m → Stepped i h l l₁ h (i + 1)
-        stepped-quiet w =
-            record {
-              falling = fell;
-              within = omega arith;
-              either =
-                  inl (
-                    refl,
-                    ap (λ (t : Bounds). t .late) (same .0),
-                    refl,
-                    subst (λ (t : Bounds). Settled (edges (own i)) (t .late)) (sym (same .0)) (same .1),
-                  );
-            }
-          where
-            same : (bounds l₁ m ≡ bounds l m₀) × Settled (edges (own i)) l
-            same = lowers .quiet (omega arith)
-
-        pub stepped-hit : m < m₀ → Stepped i h l l₁ true (i + 1)
-        stepped-hit w = record { falling = fell; within = omega arith; either = inr (refl, lowers .less w) }
-
-        -- the checks back from here
-        pub back-able : Bounded N forth l₁
-        back-able = bounded-some N cs forth l₁ (left-member forth back) (fell .bounded)
+        pub back-able : Bounded (K + n + 1) (forthEdges low far L n K) l₁
+        back-able = ascending.back-able low far L n K own back i h l b (member i inside) l₁ m₀ m few after
 
         pub stepped-mended : m < m₀ → (from floor : ℕ) → floor ≤ i + 1 → (l₂ : List ℕ) (lowest : ℕ)
-            → Descended low far L n K from floor l₁ l₂ lowest → Stepped i h l l₂ true lowest
-        stepped-mended w from floor f l₂ lowest d =
-            record {
-              falling = falling-then N cs l l₁ l₂ fell then;
-              within = omega (arith, d .bottom);
-              either = inr (refl, omega (arith, lowers .less w, then .sum));
-            }
-          where
-            then : Falling N cs l₁ l₂
-            then = falling-among N cs forth l₁ l₂ (left-member forth back) (fell .bounded) (d .falling)
+            → Descended low far L n K from floor l₁ l₂ lowest → Stepped low far L n K own back i h l l₂ true lowest
+        stepped-mended = ascending.stepped-mended low far L n K own back i h l b (member i inside) l₁ m₀ m few after
 
-  -- ---- all steps
-  -- What they give: r says whether one has lowered a bound, and where none has, all demands hold.
-  pub record Ascended (l l′ : List ℕ) (r : Bool) : Type 0 where
-    pub falling : Falling N cs l l′
-    pub quiet : r ≡ false → (l′ ≡ l) × Settled back l′
-    pub loud : r ≡ true → total l′ < total l
-
-  -- On the way: step i, which is step s of its round, is the next.
-  pub record Ascending (l₀ l : List ℕ) (i s : ℕ) (h : Bool) : Type 0 where
-    pub falling : Falling N cs l₀ l
-    pub step : s ≡ i % L
-    pub quiet : h ≡ false → (l ≡ l₀) × ((m : ℕ) → m < i → Settled (edges (own m)) l)
-    pub loud : h ≡ true → total l < total l₀
-
-  pub ascending-first : (l : List ℕ) → Bounded N cs l → 0 ≡ 0 % L → Ascending l l 0 0 false
-  ascending-first l b e =
-      record {
-        falling = falling-first N cs l b;
-        step = e;
-        quiet = λ p. (refl, λ m w. absurd (omega arith));
-        loud = λ p. absurd (true≢false (sym p));
-      }
-
-  module _ (l₀ l : List ℕ) (i s : ℕ) (h : Bool) (u : Ascending l₀ l i s h) where
-    pub ascending-next : (l′ : List ℕ) (r : Bool) (next : ℕ) → Stepped i h l l′ r next → (s′ : ℕ) → s′ ≡ next % L
-        → Ascending l₀ l′ next s′ r
-    ascending-next l′ r next a s′ e = go (a .either)
-      where
-        fell : Falling N cs l₀ l′
-        fell = falling-then N cs l₀ l l′ (u .falling) (a .falling)
-
-        Was : List ℕ → Type 0
-        Was x = (m : ℕ) → m < i → Settled (edges (own m)) x
-
-        each : (m : ℕ) → m < i + 1 → Dec (m ≡ i) → Settled (edges (own i)) l′ → Was l′ → Settled (edges (own m)) l′
-        each m w (yes p) t k = rw p t
-        each m w (no p) t k = k m (omega arith)
-
-        go : ((r ≡ h) × (l′ ≡ l) × (next ≡ i + 1) × Settled (edges (own i)) l′) ⊎ ((r ≡ true) × (total l′ < total l))
-            → Ascending l₀ l′ next s′ r
-        go (inl q) =
-            record {
-              falling = fell;
-              step = e;
-              quiet = λ p.
-                  let before = u .quiet (sym (q .0) ∙ p) in (
-                    q .1 ∙ before .0,
-                    λ m w.
-                        each m (omega (arith, q .2)) (ℕ-discrete m i) (q .3) (subst (λ x. Was x) (sym (q .1)) (before .1)),
-                  );
-              loud = λ p. omega (arith, u .loud (sym (q .0) ∙ p), ap total (q .1));
-            }
-        go (inr q) =
-            record {
-              falling = fell;
-              step = e;
-              quiet = λ p. absurd (true≢false (sym (q .0) ∙ p));
-              loud = λ p. omega (arith, q .1, u .falling .sum);
-            }
-
-    -- what falls: the bounds, or else the steps that are left
-    pub ascending-less : i < K → (l′ : List ℕ) (r : Bool) (next : ℕ) → Stepped i h l l′ r next
-        → total l′ * (K + 2) + (K + 1 - next) < total l * (K + 2) + (K + 1 - i)
-    ascending-less w l′ r next a = go (a .either)
-      where
-        go : ((r ≡ h) × (l′ ≡ l) × (next ≡ i + 1) × Settled (edges (own i)) l′) ⊎ ((r ≡ true) × (total l′ < total l))
-            → total l′ * (K + 2) + (K + 1 - next) < total l * (K + 2) + (K + 1 - i)
-        go (inl q) = omega (arith, ap (λ x. total x * (K + 2)) (q .1), q .2)
-        go (inr q) = omega (arith, mul-le-mul-right (K + 2) (q .1))
-
-    pub ascending-last : K ≤ i → Ascended l₀ l h
-    ascending-last w =
-        record {
-          falling = u .falling;
-          quiet = λ p. (u .quiet p .0, led-back-settled up T far L n K l (λ m q. u .quiet p .1 m (omega arith)));
-          loud = u .loud;
-        }
+  pub ascending-last : (l₀ l : List ℕ) (i s : ℕ) (h : Bool) → Ascending low far L n K own back l₀ l i s h → K ≤ i
+      → Ascended low far L n K back l₀ l h
+  ascending-last l₀ l i s h u = ascending.ascending-last low far L n K own back l₀ l i s h u (led-back-settled up T far L n K l)

@@ -14,11 +14,12 @@ use lowering::smaller;
 ghost use mathlib.Core.Path.{_≡_};
 ghost use Prim.Native.Nat.{_+_, _%_, _<_};
 ghost use Rattle.leads.specs.Leads.{ledBy, Leading};
+ghost use Rattle.sweeps.specs.Order.{backAt};
 ghost use Rattle.ways.specs.Forth.{Going};
 ghost use Rattle.lowering.specs.Bounded.{Bounded};
 ghost use Rattle.lowering.specs.Outcome.{Greatest};
-ghost use Rattle.led_latest.specs.Steps.{ledEdges};
-ghost use Rattle.led_latest.specs.Ascent.{Stepped, Ascended};
+ghost use Rattle.latest.specs.Ascending.{Stepped, Ascended};
+ghost use Rattle.led_latest.specs.Steps.{ledBackEdges, ledEdges};
 
 // The checks of step i forth, its tightest guards from above and then those between two clocks. Where they lower a bound, and steps are
 // left to go back, the checks back from the step follow at once, and the ascent goes on after the lowest moment that is lowered. It is
@@ -40,8 +41,10 @@ fn ascend_step(
     requires { ⌜ Going (now low) (now far) steps clocks total × Going (now up) (now far) steps clocks total × Leading (now leads) steps
         × (i < total) × (s ≡ i % steps)
         × Bounded (total + clocks + 1) (ledEdges (now low) (now up) (ledBy (now leads)) (now far) steps clocks total) (now late) ⌝ }
-    ensures { λ r. ⌜ Stepped (now (low .entry)) (now (up .entry)) (ledBy (now (leads .entry))) (now (far .entry)) steps clocks total i
-        hit (now (late .entry)) (now (late .exit)) (r .hit) (r .next) ⌝ }
+    ensures { λ r. ⌜ Stepped (now (low .entry)) (now (far .entry)) steps clocks total
+        (backAt (now (up .entry)) (ledBy (now (leads .entry))) (now (far .entry)) steps clocks total)
+        (ledBackEdges (now (up .entry)) (ledBy (now (leads .entry))) (now (far .entry)) steps clocks total) i hit
+        (now (late .entry)) (now (late .exit)) (r .hit) (r .next) ⌝ }
 {
     let sided = bound_side(true, up, far, clocks, total, s, i, late, NEVER);
     let lowest = bound_leads(leads, far, total, s, i, late, sided);
@@ -83,7 +86,8 @@ fn ascend(
 ) -> bool
     requires { ⌜ Going (now low) (now far) steps clocks total × Going (now up) (now far) steps clocks total × Leading (now leads) steps
         × Bounded (total + clocks + 1) (ledEdges (now low) (now up) (ledBy (now leads)) (now far) steps clocks total) (now late) ⌝ }
-    ensures { λ r. ⌜ Ascended (now (low .entry)) (now (up .entry)) (ledBy (now (leads .entry))) (now (far .entry)) steps clocks total
+    ensures { λ r. ⌜ Ascended (now (low .entry)) (now (far .entry)) steps clocks total
+        (ledBackEdges (now (up .entry)) (ledBy (now (leads .entry))) (now (far .entry)) steps clocks total)
         (now (late .entry)) (now (late .exit)) r ⌝ }
 {
     let mut way = Way {

@@ -1,16 +1,17 @@
 -- The invariant: what is lowered keeps all solutions, and where nothing was lowered last, all demands hold.
 use mathlib.Core.Path.{refl, sym}
 use native.Mathlib.Omega.{arith}
-use Rattle.latest.specs.Settle.{Settling, measure, settling-first, settling-glide, glide-less, forth-able, all-able, settling-next}
+use Rattle.latest.specs.Steps.{backEdges}
+use Rattle.latest.specs.Settle.{Settling, measure, settling-begin, settling-glide, glide-less, forth-able, all-able, settling-next}
 use Rattle.latest.specs.Settle.{settling-less, settling-falling, settling-last}
 use Rattle.latest.proofs.settle.Statement.{statement}
 use Rattle.latest.proofs.settle.Tie as tie
 
 abbrev Inv-loop : tie.InvT-loop
-Inv-loop low up far steps clocks total late₀ begun hit₀ most₀ late hit most = Settling low up far steps clocks total late₀ late hit
+Inv-loop low up far steps clocks total late₀ begun hit₀ most₀ late hit most = Settling low far steps clocks total (backEdges up far steps clocks total) late₀ late hit
 
 abbrev μ-loop : tie.MeasureT-loop
-μ-loop low up far steps clocks total late₀ begun hit₀ most₀ late hit most = measure low up far steps clocks total late hit
+μ-loop low up far steps clocks total late₀ begun hit₀ most₀ late hit most = measure low far steps clocks total (backEdges up far steps clocks total) late hit
 
 -- ---- places: where it began, the turn, the glide and the way back
 abbrev entry : tie.At-loop Inv-loop μ-loop → tie.Start Inv-loop μ-loop
@@ -26,7 +27,7 @@ ascend-requires : tie.Need-ascend-requires Inv-loop μ-loop
 ascend-requires c κs = let p = c .before .before .before .before .before .pre in (p .0, p .1, p .3)
 
 loop-holds : tie.Need-loop-holds Inv-loop μ-loop
-loop-holds c = settling-first _ _ _ _ _ _ _ _ _ (c .before .before .ascend .ensures)
+loop-holds c = settling-begin _ _ _ _ _ _ _ (c .before .before .ascend .ensures .falling .bounded)
 
 glide-requires : tie.Need-glide-requires Inv-loop μ-loop
 glide-requires c κs =

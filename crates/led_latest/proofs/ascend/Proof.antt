@@ -5,13 +5,16 @@ use native.Mathlib.Omega.{arith}
 use Prim.Native.Nat.{_+_, _*_, _-_}
 use Rattle.lowering.specs.Outcome as outcome
 use Rattle.leads.specs.Leads.{ledBy}
-use Rattle.led_latest.specs.Ascent.{Ascending, ascending-first, ascending-next, ascending-less, ascending-last}
+use Rattle.sweeps.specs.Order.{backAt}
+use Rattle.led_latest.specs.Steps.{ledBackEdges}
+use Rattle.latest.specs.Ascending.{Ascending, ascending-first, ascending-next, ascending-less}
+use Rattle.led_latest.specs.Ascent.{ascending-last}
 use Rattle.led_latest.proofs.ascend.Statement.{statement}
 use Rattle.led_latest.proofs.ascend.Tie as tie
 
 abbrev Inv-loop : tie.InvT-loop
 Inv-loop low up leads far steps clocks total left late₀ way₀ i₀ s₀ late way i s =
-    Ascending low up (ledBy leads) far steps clocks total late₀ late i s (way .hit)
+    Ascending low far steps clocks total (backAt up (ledBy leads) far steps clocks total) (ledBackEdges up (ledBy leads) far steps clocks total) late₀ late i s (way .hit)
 
 abbrev μ-loop : tie.MeasureT-loop
 μ-loop low up leads far steps clocks total left late₀ way₀ i₀ s₀ late way i s =
