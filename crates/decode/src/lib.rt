@@ -35,7 +35,7 @@ fn guard_at(bytes: &[u8], at: usize) -> Guard
 }
 
 // The table by value of all records. What does not fit is left out; in accepted bytes everything fits.
-fn fill(bytes: &[u8]) -> Table
+pub fn fill(bytes: &[u8]) -> Table
     requires { ⌜ length (now bytes) ≤ 4096 ⌝ }
     ensures { λ r. ⌜ r ≡ filled empty (records (now (bytes .entry))) ⌝ }
 {

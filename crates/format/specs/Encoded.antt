@@ -61,13 +61,13 @@ relation-known AtLeast = refl
 relation-known Over = refl
 
 -- the head is taken
-judge-head : (n : ℕ) → 1 ≤ n → n ≤ 6 → judgeOf start (headWith n) ≡ Next (headTally n)
+pub judge-head : (n : ℕ) → 1 ≤ n → n ≤ 6 → judgeOf start (headWith n) ≡ Next (headTally n)
 unfolding judgeOf wholeOf headed
 judge-head n low high = simp (le-leb 1 n low, le-leb n 6 high)
 
 -- after it a legal entry, a finished step and the end are taken, as far as their numbers are within the limits
 module _ (t : Tally) (at : ℕ) (later : 0 < at) where
-  judge-entry : (e : Entry) → LegalEntry (t .clocks) e → fresh (t .pending) e ≡ true → t .guards + weight e ≤ 64
+  pub judge-entry : (e : Entry) → LegalEntry (t .clocks) e → fresh (t .pending) e ≡ true → t .guards + weight e ≤ 64
       → judgeOf t (entryAt at e) ≡ Next (entered t e)
   unfolding judgeOf wholeOf guarded cleared
   judge-entry (guard g) l new room =
@@ -83,11 +83,11 @@ module _ (t : Tally) (at : ℕ) (later : 0 < at) where
   judge-entry (reset j) l new room =
       simp (ne-eqb at 0 (λ z. omega arith), le-leb 1 j (l .0), le-leb j (t .clocks) (l .1), new, add-zero)
 
-  judge-finish : t .steps < 16 → judgeOf t (finishAt at) ≡ Next (stepped t (t .guards))
+  pub judge-finish : t .steps < 16 → judgeOf t (finishAt at) ≡ Next (stepped t (t .guards))
   unfolding judgeOf wholeOf finished
   judge-finish few = simp (ne-eqb at 0 (λ z. omega arith), lt-ltb (t .steps) 16 few)
 
-  judge-end : 1 ≤ t .steps → t .pending ≡ 0 → judgeOf t (endAt at) ≡ Last
+  pub judge-end : 1 ≤ t .steps → t .pending ≡ 0 → judgeOf t (endAt at) ≡ Last
   unfolding judgeOf wholeOf ended
   judge-end some none = simp (ne-eqb at 0 (λ z. omega arith), le-leb 1 (t .steps) some, none)
 
@@ -98,7 +98,7 @@ unfolding recordsFrom
 records-entry at (guard g) rest = ap (λ n. entryAt at (guard g) ∷ recordsFrom 0 n rest) (omega arith)
 records-entry at (reset j) rest = ap (λ n. entryAt at (reset j) ∷ recordsFrom 0 n rest) (omega arith)
 
-records-more : (at : ℕ) (e : Entry) (es : List Entry) (rest : List ℕ)
+pub records-more : (at : ℕ) (e : Entry) (es : List Entry) (rest : List ℕ)
     → recordsFrom 0 at (stepBytes (e ∷ es) ++ rest)
     ≡ entryAt at e ∷ recordsFrom 0 (at + length (entryBytes e)) (stepBytes es ++ rest)
 unfolding stepBytes
@@ -107,19 +107,19 @@ records-more at e es rest =
     ∙ records-entry at e (stepBytes es ++ rest)
 
 -- all clocks that entries reset are free
-abbrev Free : ℕ → List Entry → Type 0
+abbrev pub Free : ℕ → List Entry → Type 0
 Free m es = Each (λ j. isFree m j ≡ true) (resetsOf es)
 
-free-none : (m : ℕ) (es : List Entry) → m ≡ 0 → Free m es
+pub free-none : (m : ℕ) (es : List Entry) → m ≡ 0 → Free m es
 free-none m es e k l = ap (λ n. isFree n (getD (resetsOf es) k 0)) e ∙ all-free (getD (resetsOf es) k 0)
 
 -- the first of them is fresh, and with it marked the others stay free
-free-first : (m : ℕ) (e : Entry) (es : List Entry) → Free m (e ∷ es) → fresh m e ≡ true
+pub free-first : (m : ℕ) (e : Entry) (es : List Entry) → Free m (e ∷ es) → fresh m e ≡ true
 unfolding resetsOf
 free-first m (guard g) es free = refl
 free-first m (reset j) es free = free 0 (omega arith)
 
-free-rest : (n m : ℕ) (e : Entry) (es : List Entry) → n ≤ 6 → LegalStep n (e ∷ es) → Free m (e ∷ es)
+pub free-rest : (n m : ℕ) (e : Entry) (es : List Entry) → n ≤ 6 → LegalStep n (e ∷ es) → Free m (e ∷ es)
     → Free (marked m (digitOf e)) es
 unfolding resetsOf
 free-rest n m (guard g) es few legal free = λ k l.
@@ -133,7 +133,7 @@ free-rest n m (reset i) es few legal free = λ k l.
     marked-other m j i (omega (arith, b .1)) (omega (arith, a .1))
     (λ e. legal .once 0 (suc k) (omega arith) (omega arith) (sym e)) ∙ free (suc k) (omega arith)
 
-legal-rest : (n : ℕ) (e : Entry) (es : List Entry) → LegalStep n (e ∷ es) → LegalStep n es
+pub legal-rest : (n : ℕ) (e : Entry) (es : List Entry) → LegalStep n (e ∷ es) → LegalStep n es
 unfolding resetsOf
 legal-rest n (guard g) es h = record { entries = λ f m. h .entries f (List·Memᴰ·tail m); once = h .once }
 legal-rest n (reset j) es h =

@@ -87,18 +87,18 @@ kept-none t few room =
       known = λ i l. absurd (omega arith);
     }
 
-before-more : (es : List Entry) (e : Entry) (bs : List ℕ) → before (es ++ (e ∷ [])) bs ≡ before es (entryBytes e ++ bs)
+pub before-more : (es : List Entry) (e : Entry) (bs : List ℕ) → before (es ++ (e ∷ [])) bs ≡ before es (entryBytes e ++ bs)
 unfolding before
 before-more [] e bs = refl
 before-more (f ∷ es) e bs = ap (λ rest. entryBytes f ++ rest) (before-more es e bs)
 
-before-step : (es : List Entry) (bs : List ℕ) → stepBytes es ++ bs ≡ before es (4 ∷ bs)
+pub before-step : (es : List Entry) (bs : List ℕ) → stepBytes es ++ bs ≡ before es (4 ∷ bs)
 unfolding before stepBytes
 before-step [] bs = refl
 before-step (e ∷ es) bs =
     append-assoc (entryBytes e) (stepBytes es) bs ∙ ap (λ rest. entryBytes e ++ rest) (before-step es bs)
 
-guards-last : (es : List Entry) (e : Entry) → length (guardsOf (es ++ (e ∷ []))) ≡ length (guardsOf es) + weight e
+pub guards-last : (es : List Entry) (e : Entry) → length (guardsOf (es ++ (e ∷ []))) ≡ length (guardsOf es) + weight e
 unfolding guardsOf
 guards-last [] e = omega (arith, guards-more e [])
 guards-last (f ∷ es) e = omega (arith, guards-more f (es ++ (e ∷ [])), guards-more f es, guards-last es e)
@@ -109,7 +109,7 @@ resets-last [] e = refl
 resets-last (guard g ∷ es) e = resets-last es e
 resets-last (reset j ∷ es) e = ap (λ js. j ∷ js) (resets-last es e)
 
-bytes-entry : (at : ℕ) (e : Entry) (rs : List Record) → bytesIn (entryAt at e ∷ rs) ≡ entryBytes e ++ bytesIn rs
+pub bytes-entry : (at : ℕ) (e : Entry) (rs : List Record) → bytesIn (entryAt at e ∷ rs) ≡ entryBytes e ++ bytesIn rs
 unfolding bytesIn
 bytes-entry at (guard g) rs = refl
 bytes-entry at (reset j) rs = refl
@@ -134,7 +134,7 @@ module _ {t : Tally} {begun : List Entry} (k : Kept t begun) where
       (each-last (λ i. isFree (marked (t .pending) j) i ≡ false) (resetsOf begun) j
       (λ i l. marked-keeps (t .pending) (getD (resetsOf begun) i 0) j (k .known i l)) (marked-same (t .pending) j))
 
-  kept-entry : (e : Entry) → LegalEntry (t .clocks) e → fresh (t .pending) e ≡ true → t .guards + weight e ≤ 64
+  pub kept-entry : (e : Entry) → LegalEntry (t .clocks) e → fresh (t .pending) e ≡ true → t .guards + weight e ≤ 64
       → Kept (entered t e) (begun ++ (e ∷ []))
   kept-entry e h new room =
       record {
@@ -165,7 +165,7 @@ module _ {t : Tally} {begun : List Entry} (k : Kept t begun) where
       }
 
   -- a finished step is one of the steps
-  kept-finish : t .steps < 16 → Kept (stepped t (t .guards)) []
+  pub kept-finish : t .steps < 16 → Kept (stepped t (t .guards)) []
   kept-finish h = kept-none (stepped t (t .guards)) (omega arith) (k .room)
 
   ends-finish : {bytes : List ℕ} {ss : List (List Entry)} {n L g : ℕ}

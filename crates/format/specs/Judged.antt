@@ -60,7 +60,7 @@ agree-true p k = go (eqb p 0) (eqb k 1) (eqb-true p 0) (eqb-false p 0) (eqb-true
     go false false first later is isnt e = (λ h. absurd (isnt refl h), λ _. let n = later refl in omega arith)
 
 -- a list of a known length, by its elements
-listed : ℕ → (ℕ → ℕ) → List ℕ
+unfoldable pub listed : ℕ → (ℕ → ℕ) → List ℕ
 listed zero f = []
 listed (suc n) f = f 0 ∷ listed n (λ i. f (suc i))
 
@@ -70,6 +70,13 @@ is-listed zero [] h = refl
 is-listed zero (b ∷ l) h = absurd (omega arith)
 is-listed (suc n) [] h = absurd (omega arith)
 is-listed (suc n) (b ∷ l) h = ap (λ rest. b ∷ rest) (is-listed n l (omega arith))
+
+-- a whole record of a kind, by the bytes of its body
+pub shaped : (r : Record) → length (r .body) ≡ bodySize (r .kind) → (k : ℕ) → r .kind ≡ k
+    → r ≡ record { place = r .place; kind = k; body = listed (bodySize k) (byte r) }
+shaped r size k e =
+    let b : r .body ≡ listed (bodySize k) (byte r) = is-listed (bodySize k) (r .body) (size ∙ ap bodySize e) in
+    λ i. record { place = r .place; kind = e i; body = b i }
 
 -- a relation's byte is written back
 code-back : (c : ℕ) → c ≤ 4 → relationCode (relationOf c) ≡ c
@@ -92,19 +99,13 @@ module _ (t : Tally) (r : Record) where
   cond-told false v w h k = k refl
 
   module _ (size : length (r .body) ≡ bodySize (r .kind)) (small : Bytes (r .body)) where
-    -- a record of a kind, by the bytes of its body
-    shaped : (k : ℕ) → r .kind ≡ k → r ≡ record { place = r .place; kind = k; body = listed (bodySize k) (byte r) }
-    shaped k e =
-        let b : r .body ≡ listed (bodySize k) (byte r) = is-listed (bodySize k) (r .body) (size ∙ ap bodySize e) in
-        λ i. record { place = r .place; kind = e i; body = b i }
-
     head-told : r .kind ≡ 1 → r .place ≡ 0 → Told t r (headed (r .place) (byte r 0))
     unfolding headed listed
     head-told k first =
         need-told (within 1 (byte r 0) 6) _ _ λ e.
         let h = within-true 1 (byte r 0) 6 e in
         is-head (byte r 0) first
-        (shaped 1 k ∙ ap (λ p. record { place = p; kind = 1; body = byte r 0 ∷ [] }) first) (h .0) (h .1)
+        (shaped r size 1 k ∙ ap (λ p. record { place = p; kind = 1; body = byte r 0 ∷ [] }) first) (h .0) (h .1)
 
     guard-told : r .kind ≡ 2 → 0 < r .place → Told t r (guarded t (r .place) (byte r 0) (byte r 1) (constantOf r))
     unfolding guarded listed
@@ -118,7 +119,7 @@ module _ (t : Tally) (r : Record) where
         let high : constantOf r / 256 ≡ byte r 3 = omega (arith, small 2) in
         let code = code-back (byte r 1) (leb-true (byte r 1) 4 c) in
         is-entry (guard (guardIn r)) later
-        (shaped 2 k
+        (shaped r size 2 k
         ∙ ap (λ body. record { place = r .place; kind = 2; body = body })
         (λ i. byte r 0 ∷ sym code i ∷ sym low i ∷ sym high i ∷ []))
         (h .0, h .1, leb-true (constantOf r) 4000 d, record { second = refl; minus = refl }) refl
@@ -131,7 +132,7 @@ module _ (t : Tally) (r : Record) where
         need-told (isFree (t .pending) (byte r 0)) _ _ λ a.
         let h = within-true 1 (byte r 0) (t .clocks) e in
         subst (λ c. Told t r (Next (after c))) (add-zero (t .guards))
-        (is-entry (reset (byte r 0)) later (shaped 3 k) (h .0, h .1) a (omega arith))
+        (is-entry (reset (byte r 0)) later (shaped r size 3 k) (h .0, h .1) a (omega arith))
       where
         after : ℕ → Tally
         after c = record { clocks = t .clocks; steps = t .steps; guards = c; pending = marked (t .pending) (byte r 0) }
@@ -139,14 +140,14 @@ module _ (t : Tally) (r : Record) where
     finish-told : r .kind ≡ 4 → 0 < r .place → Told t r (finished t (r .place))
     unfolding finished listed
     finish-told k later =
-        need-told (ltb (t .steps) 16) _ _ λ e. is-finish later (shaped 4 k) (ltb-true (t .steps) 16 e)
+        need-told (ltb (t .steps) 16) _ _ λ e. is-finish later (shaped r size 4 k) (ltb-true (t .steps) 16 e)
 
     end-told : r .kind ≡ 5 → 0 < r .place → Told t r (ended t (r .place))
     unfolding ended listed
     end-told k later =
         need-told (leb 1 (t .steps) && eqb (t .pending) 0) _ _ λ e.
         let h = both (leb 1 (t .steps)) (eqb (t .pending) 0) e in
-        is-end later (shaped 5 k) (leb-true 1 (t .steps) (h .0)) (eqb-true (t .pending) 0 (h .1))
+        is-end later (shaped r size 5 k) (leb-true 1 (t .steps) (h .0)) (eqb-true (t .pending) 0 (h .1))
 
     -- a whole record, by its kind
     whole-told : 1 ≤ r .kind → r .kind ≤ 5 → (r .kind ≡ 1 → r .place ≡ 0) → ((r .kind ≡ 1 → ⊥) → 0 < r .place)

@@ -2,9 +2,10 @@
 use mathlib.Core.Path.{_≡_, refl, sym, _∙_, ap, subst}
 use mathlib.Core.Logic.{⊎-elim}
 use mathlib.Core.List.{List, [], _∷_, _++_, List·Memᴰ, List·Memᴰ·cases-cons, List·Memᴰ·not-nil}
-use Prim.Native.Nat.{ℕ, zero, suc, _+_, _≤_}
+use Prim.Native.Nat.{ℕ, zero, suc, _+_, _≤_, _<_}
 use native.Mathlib.Omega.{arith}
-use lib.ListN.{length, take, drop, length-take, take-append-drop}
+use lib.ListN.{length, getD, take, drop, length-take, take-append-drop}
+use lib.Seq.{getD-drop}
 use Rattle.records.specs.Rules.{bodySize}
 use Rattle.wire.specs.Records.{Bytes, Record, recordAt, recordsFrom}
 
@@ -43,6 +44,12 @@ located-at at k rest h =
       size = omega (arith, length-take (bodySize k) rest);
       small = bytes-take (bodySize k) rest h;
     }
+
+-- so is the one that begins at a place of bytes
+pub located-here : (bytes : List ℕ) (at : ℕ) → Bytes bytes → Located at (recordAt at (getD bytes at 0) (drop (at + 1) bytes))
+located-here bytes at small =
+    located-at at (getD bytes at 0) (drop (at + 1) bytes)
+    (λ i. subst (λ b. b < 256) (sym (getD-drop (at + 1) bytes i 0)) (small (at + 1 + i)))
 
 located-later : {at : ℕ} {r : Record} → Located (at + 1) r → Located at r
 located-later f = let h = f .from in record { from = omega arith; size = f .size; small = f .small }

@@ -17,7 +17,7 @@ use Rattle.wire.specs.Listing.{Entry, guard, reset, Listing, guardsOf, resetsOf
 use Rattle.format.specs.Encode.{entryBytes, stepBytes, stepsBytes, encode, guardCount, LegalEntry, LegalStep, LegalSteps, Legal}
 
 -- a step has five bytes for a guard, two for a reset, and one for its end
-step-length : (es : List Entry) → length (stepBytes es) ≡ 5 * length (guardsOf es) + 2 * length (resetsOf es) + 1
+pub step-length : (es : List Entry) → length (stepBytes es) ≡ 5 * length (guardsOf es) + 2 * length (resetsOf es) + 1
 unfolding stepBytes guardsOf resetsOf
 step-length [] = refl
 step-length (guard g ∷ es) = omega (arith, length-append (entryBytes (guard g)) (stepBytes es), step-length es)

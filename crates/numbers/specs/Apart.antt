@@ -20,12 +20,12 @@ use Rattle.demands.specs.declared.Listed.the-variants as listed
 use Rattle.answers.specs.Four.{four, refusedNumbers, readNumbers}
 use Rattle.numbers.specs.Numbers.{countNumbers, planNumbers, demandsNumbers}
 
--- the faults in the order of 01's numbers, from 1
+-- the faults in the order of 01's numbers, from 1; none has the number 22
 abbrev faults : List Fault
 faults =
     fault.Length ∷ fault.Cut ∷ fault.Kind ∷ fault.Head ∷ fault.Bounds ∷ fault.Timer ∷ fault.Relation ∷ fault.Constant
     ∷ fault.Steps ∷ fault.Tail ∷ fault.Rounds ∷ fault.Times ∷ fault.Starts ∷ fault.Loop ∷ fault.List ∷ fault.Twice
-    ∷ fault.Record ∷ fault.Tray ∷ fault.Verdicts ∷ fault.Card ∷ fault.Output ∷ []
+    ∷ fault.Record ∷ fault.Tray ∷ fault.Verdicts ∷ fault.Card ∷ fault.Output ∷ fault.Length ∷ fault.Stretch ∷ []
 
 -- an answer from its numbers: a refusal, unless the first is 0
 abbrev answerFrom : {A : Type 0} → (Refusal → A) → (ℕ → ℕ → ℕ → A) → List ℕ → A
@@ -61,6 +61,7 @@ refused-from refused other f = go (f .fault) (f .place)
     go fault.Verdicts place = refl
     go fault.Card place = refl
     go fault.Output place = refl
+    go fault.Stretch place = refl
 
 -- what can be made again from its numbers is the only one with these numbers
 only : {A : Type 0} (numbers : A → List ℕ) (from : List ℕ → A) → ((a : A) → from (numbers a) ≡ a)

@@ -35,6 +35,7 @@ number-some fault.Tray = omega arith
 number-some fault.Verdicts = omega arith
 number-some fault.Card = omega arith
 number-some fault.Output = omega arith
+number-some fault.Stretch = omega arith
 
 -- a refusal for a fault, with place 0
 abbrev pub atStart : Fault → Refusal

@@ -11,9 +11,9 @@ use Rattle.records.specs.declared.Tally.{Tally}
 use Rattle.records.specs.declared.Verdict.{Verdict}
 use Rattle.records.specs.declared.Verdict.the-variants.{Refused, Next, Last}
 
--- the length of a body, by the kind: a head 1, a bound 4, a zeroing 1, any other none
+-- the length of a body, by the kind: a head 1, a bound 4, a zeroing 1, a repeat 1, any other none
 abbrev pub bodySize : ℕ → ℕ
-bodySize k = cond (eqb k 1) 1 (cond (eqb k 2) 4 (cond (eqb k 3) 1 0))
+bodySize k = cond (eqb k 1) 1 (cond (eqb k 2) 4 (cond (eqb k 3) 1 (cond (eqb k 7) 1 0)))
 
 -- 0 under, 1 at most, 2 exactly, 3 at least, 4 over
 abbrev pub relationOf : ℕ → Relation

@@ -34,6 +34,9 @@ pub fn body_size(k: usize) -> usize
     if k == 3 {
         return 1;
     }
+    if k == 7 {
+        return 1;
+    }
     0
 }
 

@@ -5,7 +5,6 @@ use Prim.Native.Nat.{ℕ, _+_, _≤_, _<_}
 use native.Mathlib.Omega.{arith}
 use lib.Dec.{lit<}
 use lib.ListN.{length, getD, take, drop, length-take, length-drop}
-use lib.Seq.{getD-drop}
 use Rattle.table.specs.declared.Guard.{Guard}
 use Rattle.records.specs.declared.Tally.{Tally}
 use Rattle.records.specs.declared.Verdict.the-variants.{Next}
@@ -14,7 +13,7 @@ use Rattle.wire.specs.Records.{Bytes, recordAt}
 use Rattle.wire.specs.Reading.{byte, judgeOf}
 use Rattle.wire.specs.Listing.{guard, reset}
 use Rattle.wire.specs.Laws.{byte-is}
-use Rattle.format.specs.Located.{located-at}
+use Rattle.format.specs.Located.{located-here}
 use Rattle.format.specs.Shapes.{entryAt}
 use Rattle.format.specs.Judged.{Told, is-head, is-entry, is-finish, judged}
 
@@ -92,14 +91,5 @@ told-counts bytes at k short t u few (is-finish _ shape more) =
 pub counts : (bytes : List ℕ) → Bytes bytes → length bytes ≤ 4096 → (t u : Tally) (at : ℕ) → Few t
     → judgeOf t (recordAt at (getD bytes at 0) (drop (at + 1) bytes)) ≡ Next u → Counts bytes at (getD bytes at 0) t × Few u
 counts bytes small short t u at few e =
-    told-counts bytes at k short t u few
-    (subst (Told t (recordAt at k rest)) e (judged t (recordAt at k rest) (located-at at k rest small-rest) (few .guards)))
-  where
-    k : ℕ
-    k = getD bytes at 0
-
-    rest : List ℕ
-    rest = drop (at + 1) bytes
-
-    small-rest : Bytes rest
-    small-rest i = omega (arith, getD-drop (at + 1) bytes i 0, small (at + 1 + i))
+    told-counts bytes at (getD bytes at 0) short t u few
+    (subst (Told t _) e (judged t _ (located-here bytes at small) (few .guards)))

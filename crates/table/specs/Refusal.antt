@@ -3,7 +3,7 @@ use mathlib.Core.Bool.{Bool, _&&_, _||_}
 use Prim.Native.Nat.{ℕ}
 use lib.Dec.{eqb, leb}
 use Rattle.table.specs.declared.Fault.{Fault}
-use Rattle.table.specs.declared.Fault.the-variants.{Length, Cut, Kind, Head, Bounds, Timer, Relation, Constant, Steps, Tail, Rounds, Times, Starts, Loop, List, Twice, Record, Tray, Verdicts, Card, Output}
+use Rattle.table.specs.declared.Fault.the-variants.{Length, Cut, Kind, Head, Bounds, Timer, Relation, Constant, Steps, Tail, Rounds, Times, Starts, Loop, List, Twice, Record, Tray, Verdicts, Card, Output, Stretch}
 
 abbrev pub numberOf : Fault → ℕ
 numberOf Length = 1
@@ -27,6 +27,7 @@ numberOf Tray = 18
 numberOf Verdicts = 19
 numberOf Card = 20
 numberOf Output = 21
+numberOf Stretch = 23
 
 -- the numbers of faults in a table's bytes: 1 to 10, and 16
 abbrev pub ofTable : ℕ → Bool

@@ -55,6 +55,7 @@ pub enum Fault {
     Verdicts,
     Card,
     Output,
+    Stretch,
 }
 
 // A refusal: why, and the byte's place.
@@ -99,5 +100,6 @@ pub fn number(fault: Fault) -> u64
         Fault::Verdicts => 19,
         Fault::Card => 20,
         Fault::Output => 21,
+        Fault::Stretch => 23,
     }
 }

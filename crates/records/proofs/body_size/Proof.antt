@@ -16,5 +16,8 @@ returns-3 c = search (needs, tests)
 returns-4 : tie.Need-returns-4
 returns-4 c = search (needs, tests)
 
+returns-5 : tie.Need-returns-5
+returns-5 c = search (needs, tests)
+
 pub body-size-spec : {M : Type 1} → statement M
-body-size-spec = tie.close (tie.spec returns returns-2 returns-3 returns-4)
+body-size-spec = tie.close (tie.spec returns returns-2 returns-3 returns-4 returns-5)
