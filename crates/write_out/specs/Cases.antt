@@ -205,7 +205,9 @@ case-of {bytes} {at} d = go (d .items) refl (d .often)
     go : (is : Items) → d .items ≡ is → Often (d .items) → Case d
     go none e h = ended-at d e (d .rest) refl (d .ends)
     go (step [] is) e h = record-at d 4 [] is (begun (step [] is) e) (sym (ap plainBytes e)) (often-of (subst Often e h)) refl (omega arith) (omega arith)
-    go (step (guard g ∷ es) is) e h = record-at d 2 (g .clock ∷ relationCode (g .relation) ∷ g .constant % 256 ∷ g .constant / 256 ∷ []) (step es is) (begun (step (guard g ∷ es) is) e) (sym (ap plainBytes e)) (often-step es is (often-of (subst Often e h))) refl (omega arith) (omega arith)
+    go (step (guard g ∷ es) is) e h =
+        record-at d 2 (g .clock ∷ relationCode (g .relation) ∷ g .constant % 256 ∷ g .constant / 256 ∷ []) (step es is)
+        (begun (step (guard g ∷ es) is) e) (sym (ap plainBytes e)) (often-step es is (often-of (subst Often e h))) refl (omega arith) (omega arith)
     go (step (reset j ∷ es) is) e h = record-at d 3 (j ∷ []) (step es is) (begun (step (reset j ∷ es) is) e) (sym (ap plainBytes e)) (often-step es is (often-of (subst Often e h))) refl (omega arith) (omega arith)
     go (stretch times js is) e h =
         case-stretch (kind-of bytes (7 ∷ times ∷ itemsOn js (8 ∷ itemsOn is (d .rest))) at (begun (stretch times js is) e))

@@ -19,7 +19,8 @@ unfolding copies
 more zero word i h = absurd (omega arith)
 more (suc n) word i h = go (λ l. more n word (i - length word) (omega arith)) (decLt i (length word))
   where
-    go : (length word ≤ i → getD (word ++ copies n word) (i - length word) 0 ≡ getD (copies n word) (i - length word) 0) → Dec (i < length word) → getD (word ++ (word ++ copies n word)) i 0 ≡ getD (word ++ copies n word) i 0
+    go : (length word ≤ i → getD (word ++ copies n word) (i - length word) 0 ≡ getD (copies n word) (i - length word) 0)
+        → Dec (i < length word) → getD (word ++ (word ++ copies n word)) i 0 ≡ getD (word ++ copies n word) i 0
     go before (yes l) = List·getD-append word (word ++ copies n word) 0 i l ∙ sym (List·getD-append word (copies n word) 0 i l)
     go before (no l) =
         let e : length word + (i - length word) ≡ i = omega arith in

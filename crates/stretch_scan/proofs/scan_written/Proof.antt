@@ -50,7 +50,8 @@ returns c = out-refused _ _ _ _ (sym (c .before .before .before .read .ensures) 
 
 returns-2 : tie.Need-returns-2
 returns-2 c =
-    out-written _ _ _ (small (c .before .before .before .before .before .before .before .before .before)) (counted (c .before .before .before .before .before .before)) _ (lit≤ tt) (c .before .before .before .before .write-table .ensures) (c .scan .ensures)
+    let w = c .before .before .before .before in
+    out-written _ _ _ (small (w .before .before .before .before .before)) (counted (w .before .before)) _ (lit≤ tt) (w .write-table .ensures) (c .scan .ensures)
 
 pub scan-written-spec : {M : Type 1} → statement M
 scan-written-spec =

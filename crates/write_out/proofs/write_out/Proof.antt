@@ -19,18 +19,24 @@ enum-told-2 : tie.Need-enum-told-2
 enum-told-2 c = search needs
 
 write-table-requires : tie.Need-write-table-requires
-write-table-requires c κs = (record { clocks = _; steps = _; guards = _; counted = sym (c .before .before .before .read .ensures) ∙ c .before .enum-told2 .given .1 }, c .before .before .before .before .if1 .left)
+write-table-requires c κs =
+    let r = c .before .before .before in
+    (record { clocks = _; steps = _; guards = _; counted = sym (r .read .ensures) ∙ c .before .enum-told2 .given .1 }, r .before .if1 .left)
 
 returns-2 : tie.Need-returns-2
 returns-2 c =
-    written-as (written-answer _ _ _ (c .before .before .before .if1 .left) (sym (c .before .before .read .ensures) ∙ c .enum-told .given .1)) (written-none _ _)
+    let r = c .before .before in
+    written-as (written-answer _ _ _ (r .before .if1 .left) (sym (r .read .ensures) ∙ c .enum-told .given .1)) (written-none _ _)
 
 same-length : tie.Need-same-length
 same-length c = written-length (c .before .before .write-table .ensures)
 
 returns-3 : tie.Need-returns-3
 returns-3 c =
-    written-as (written-answer _ _ _ (c .before .before .before .before .before .before .before .if1 .left) (sym (c .before .before .before .before .before .before .read .ensures) ∙ c .before .before .before .before .enum-told2 .given .1)) (c .before .before .write-table .ensures)
+    let w = c .before .before in
+    let r = w .before .before .before .before in
+    written-as (written-answer _ _ _ (r .before .if1 .left) (sym (r .read .ensures) ∙ w .before .before .enum-told2 .given .1))
+    (w .write-table .ensures)
 
 pub write-out-spec : {M : Type 1} → statement M
 write-out-spec =
