@@ -1,6 +1,5 @@
 -- The demands of a variant put into cells, clock by clock.
 use mathlib.Core.Path.{_≡_, refl, ap, ap₂, sym, subst, _∙_}
-use mathlib.Core.Bool.{Bool, true, false}
 use mathlib.Core.List.{List, [], _∷_, map, List·Memᴰ·head}
 use Prim.Native.Nat.{ℕ, zero, suc, _+_, _*_, _-_, _≤_, _<_}
 use native.Mathlib.Omega.{arith}
@@ -8,12 +7,9 @@ use Rattle.runs.specs.declared.Demand.{Demand}
 use Rattle.runs.specs.declared.Start.{Start}
 use Rattle.runs.specs.Demand.{Starts, startsOf, moment, moved}
 use Rattle.runs.specs.DemandRange.{Proper}
-use Rattle.runs.specs.Parts.{bit}
 use Rattle.runs.specs.Start.{Upper, start-upper}
 use Rattle.runs.specs.Tools.{Every}
-use Rattle.zones.specs.Codes.{ZERO, code}
-use Rattle.zones.specs.Cells.{tightenOf}
-use Rattle.effects.specs.Demands.{boundOf, each, every-each}
+use Rattle.effects.specs.Demands.{each, every-each}
 use Rattle.effects.specs.StepDemands.{Short}
 use Rattle.constraints.specs.declared.Partner.{Partner}
 use Rattle.constraints.specs.declared.Partner.the-variants.{One, None}
@@ -21,17 +17,6 @@ use Rattle.constraints.specs.Partner.{partnerList}
 use Rattle.steps.specs.Puts.{putOf, putsOf, puts-append}
 
 -- ---- One demand
-
--- Its code.
-pub put-is : (d : Demand) (l z : List ℕ) → d .down ≤ 4000
-    → z ≡ tightenOf (d .from) (d .to) (ZERO + 2 * d .up - 2 * d .down - bit (d .strict)) l → z ≡ putOf d l
-unfolding putOf code
-put-is d l z h e = e ∙ ap (λ c. tightenOf (d .from) (d .to) c l) (go (d .strict) refl)
-  where
-    go : (b : Bool) → d .strict ≡ b → ZERO + 2 * d .up - 2 * d .down - bit (d .strict) ≡ code (boundOf d)
-    go true q = rw q (omega arith)
-    go false q = rw q (omega arith)
-
 proper-short : (n N : ℕ) (d : Demand) → n < N → Proper n d → Short N d
 proper-short n N d h p = record {
   from = omega (arith, p .from);

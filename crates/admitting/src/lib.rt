@@ -2,14 +2,11 @@
 // vertices, tells from where the steps run. With the demands of the variant put in it has a solution, or it has none.
 use closing::close;
 use constraints::Partner;
-use constraints::bit_of;
 use constraints::partner_of;
 use constraints::partners;
-use runs::Demand;
 use runs::Start;
-use zones::ZERO;
+use steps::put;
 use zones::copy_line;
-use zones::tighten;
 ghost use mathlib.Core.Path.{_≡_};
 ghost use mathlib.Core.Bool.{true};
 ghost use mathlib.Core.List.{List};
@@ -21,9 +18,8 @@ ghost use Rattle.runs.specs.Demand.{startsOf};
 ghost use Rattle.effects.specs.Begins.{Begins};
 ghost use Rattle.effects.specs.Demands.{each};
 ghost use Rattle.effects.specs.Starts.{startsFor};
-ghost use Rattle.effects.specs.StepDemands.{Short};
 ghost use Rattle.effects.specs.Whole.{Side};
-ghost use Rattle.steps.specs.Puts.{putOf, putsOf};
+ghost use Rattle.steps.specs.Puts.{putsOf};
 ghost use Rattle.effects.specs.Stored.{EffectOf};
 ghost use Rattle.admitting.specs.Grid.{Lies, LeftTo};
 
@@ -39,15 +35,6 @@ fn left_part(left: &mut [u64], cells: &[u64], base: usize, stride: usize, side: 
         from += stride;
         r += 1;
     }
-}
-
-// A demand put in.
-fn put(left: &mut [u64], d: Demand)
-    requires { ⌜ (length (now left) ≡ 441) × Short 21 d ⌝ }
-    ensures { λ _. ⌜ now (left .exit) ≡ putOf d (now (left .entry)) ⌝ }
-{
-    let strict = bit_of(d.strict);
-    tighten(left, d.from, d.to, ZERO + 2 * d.up - 2 * d.down - strict);
 }
 
 // The demand that the variant has for clock j.

@@ -2,6 +2,7 @@
 use mathlib.Core.Bool.{Bool, cond, _&&_}
 use Prim.Native.Nat.{ℕ, _+_, _*_}
 use lib.Dec.{leb}
+use Rattle.table.specs.Refusal.{placeless}
 use Rattle.table.specs.declared.Fault.{Fault}
 use Rattle.table.specs.declared.Fault.the-variants as fault
 use Rattle.asking.specs.declared.Admission.{Admission}
@@ -9,7 +10,7 @@ use Rattle.asking.specs.declared.Admission.the-variants.{Refused, Accept
 
 -- refused for a fault, with place 0; and so unless the test holds
 abbrev pub refusedFor : Fault → Admission
-refusedFor f = Refused (record { fault = f; place = 0 })
+refusedFor f = Refused (placeless f)
 
 abbrev pub need : Bool → Fault → Admission → Admission
 need b f rest = cond b rest (refusedFor f)

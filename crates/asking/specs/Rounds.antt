@@ -7,7 +7,7 @@ use Rattle.table.specs.declared.Read.the-variants as read
 use Rattle.wire.specs.Records.{Bytes}
 use Rattle.wire.specs.Reading.{readOf}
 use Rattle.wire.specs.Listing.{listing, cycle}
-use Rattle.format.specs.Accepted.{accepted-written}
+use Rattle.format.specs.Accepted.{accepted-counted}
 use Rattle.format.specs.Fair.{legal-clocks}
 use Rattle.runs.specs.Run.{copies}
 use Rattle.runs.specs.declared.Demand.{Demand}
@@ -38,4 +38,4 @@ RunExists bytes v k = Exists (clocksOf bytes) (startsOf v) (roundsIn bytes k)
 pub guards-on : (bytes : List ℕ) → Bytes bytes → (k n L g : ℕ) → readOf bytes ≡ read.Counted n L g
     → Clocks (clocksOf bytes) (roundsIn bytes k)
 guards-on bytes h k n L g e =
-    clocks-copies (clocksOf bytes) (cycleOf bytes) k (legal-clocks (listing bytes) (accepted-written bytes h n L g e .legal))
+    clocks-copies (clocksOf bytes) (cycleOf bytes) k (legal-clocks (listing bytes) (accepted-counted bytes h n L g e .legal))

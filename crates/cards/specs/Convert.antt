@@ -5,6 +5,7 @@ use mathlib.Core.Option.{Option, none, some}
 use Prim.Native.Nat.{ℕ, suc}
 use lib.Dec.{leb}
 use lib.ListN.{length, drop}
+use Rattle.table.specs.Refusal.{placeless}
 use Rattle.table.specs.declared.Fault.the-variants as fault
 use Rattle.table.specs.declared.Read.{Read}
 use Rattle.table.specs.declared.Read.the-variants as read
@@ -68,7 +69,7 @@ cardOf bytes = textOf (records bytes)
 
 -- What is read is converted: the answer, by the length of the output room, and that room after it.
 unfoldable pub handed : ℕ → ℕ → Converted
-handed n size = cond (leb n size) (Written n) (Refused (record { fault = fault.Output; place = 0 }))
+handed n size = cond (leb n size) (Written n) (Refused (placeless fault.Output))
 
 abbrev pub answerOf : Read → List ℕ → ℕ → Converted
 answerOf (read.Refused f) out size = Refused f

@@ -1,5 +1,5 @@
 -- What accepted bytes give to the code: a sound table by value, whose demands are those of the table written down.
-use mathlib.Core.Path.{_≡_, sym, _∙_, ap, subst}
+use mathlib.Core.Path.{_≡_, sym, _∙_, ap}
 use mathlib.Core.List.{List}
 use Prim.Native.Nat.{ℕ}
 use lib.IntN.{ℤ}
@@ -9,19 +9,15 @@ use Rattle.table.specs.declared.Refusal.{Refusal}
 use Rattle.table.specs.declared.Table.{Table}
 use Rattle.runs.specs.Run.{copies}
 use Rattle.runs.specs.declared.Start.{Start}
-use Rattle.runs.specs.Demand.{demands, startsOf, Clocks}
+use Rattle.runs.specs.Demand.{demands, startsOf}
 use Rattle.constraints.specs.Demands.{demandsOf}
 use Rattle.wire.specs.Reading.{readOf}
-use Rattle.wire.specs.Listing.{listing, cycle}
 use Rattle.decode.specs.Fill.{tableOf}
 use Rattle.wire.specs.Records.{Bytes}
-use Rattle.format.specs.Fair.{legal-clocks}
-use Rattle.format.specs.Accepted.{Written, accepted-written}
-use Rattle.decode.specs.Represent.{Represents}
-use Rattle.decode.specs.Meaning.{table-represents}
+use Rattle.decode.specs.Meaning.{Means, accepted-means}
 use Rattle.asking.specs.Rounds.{demandsIn}
 use Rattle.cells.specs.Lines.{cells}
-use Rattle.writing.specs.Ready.{Sound}
+use Rattle.constraints.specs.Sized.{Tabled}
 use Rattle.demands.specs.declared.Listed.{Listed}
 use Rattle.demands.specs.declared.Listed.the-variants.{Refused}
 use Rattle.demands.specs.Listed.{answerOf, listedOf, unlessRefused, rowOf}
@@ -29,34 +25,23 @@ use Rattle.demands.specs.Listed.{answerOf, listedOf, unlessRefused, rowO
 -- ---- accepted bytes, and the table t that is filled in from them
 module _ (bytes : List ℕ) (small : Bytes bytes) {n L g : ℕ} (e : readOf bytes ≡ Counted n L g)
     {t : Table} (same : t ≡ tableOf bytes) where
-  stands : Represents t (listing bytes)
-  stands = rw same (table-represents bytes small n L g e)
+  means : Means bytes t n L g
+  means = accepted-means bytes small n L g e t same
 
-  wrote : Written (listing bytes) bytes n L g
-  wrote = accepted-written bytes small n L g e
-
-  -- it is sound
-  pub table-sound : Sound t
-  table-sound =
-      record {
-        good = stands .good;
-        clocks =
-            subst (λ σ. Clocks (t .clocks) σ) (sym (stands .same))
-            (subst (λ m. Clocks m (cycle (listing bytes))) (sym (stands .clocks))
-            (legal-clocks (listing bytes) (wrote .legal)));
-      }
+  -- it is fit to be asked of
+  pub table-tabled : Tabled t
+  table-tabled = record { good = means .good; clocks = means .guarded }
 
   -- it has the demands of the table that is written down
   pub table-demands : (v : Start) (k : ℕ) → demandsOf t v k ≡ demandsIn bytes v k
   unfolding demandsIn
-  table-demands v k = λ i. demands (stands .clocks i) (copies (stands .same i) k) (startsOf v)
+  table-demands v k = λ i. demands (means .named i) (copies (means .same i) k) (startsOf v)
 
   listed-counted : (v : Start) (k room : ℕ)
       → answerOf (t .steps) k (length (demandsOf t v k)) room ≡ listedOf bytes v k room
   unfolding listedOf
   listed-counted v k room =
-      let steps : t .steps ≡ L = stands .steps ∙ sym (wrote .steps) in
-      (λ i. answerOf (steps i) k (length (table-demands v k i)) room) ∙ rw (listedOf, e)
+      (λ i. answerOf (means .steps i) k (length (table-demands v k i)) room) ∙ rw (listedOf, e)
 
   -- the answer and the row that are right for it are right
   pub rows-counted : {r : Listed} (v : Start) (k room : ℕ) (row : List ℤ) {row′ : List ℤ}

@@ -9,7 +9,7 @@ use Rattle.table.specs.declared.Fault.the-variants as fault
 use Rattle.table.specs.declared.Table.{Table}
 use Rattle.asking.specs.Admission.{inRange}
 use Rattle.asking.specs.Admitted.{range-true}
-use Rattle.writing.specs.Ready.{Sound, Ready}
+use Rattle.constraints.specs.Sized.{Tabled, Sized}
 use Rattle.demands.specs.declared.Listed.{Listed}
 use Rattle.demands.specs.declared.Listed.the-variants.{Written}
 use Rattle.demands.specs.Listed.{refusedFor, answerOf, unlessRefused}
@@ -32,5 +32,5 @@ pub kept : {A : Type 0} {r : Listed} {f : Fault} (new old : List A) → r ≡ re
 kept new old e = sym (ap (λ x. unlessRefused x new old) e)
 
 -- rounds in range are ready for the code
-pub in-range-ready : {t : Table} {k : ℕ} → Sound t → inRange k (t .steps) ≡ true → Ready t k
-in-range-ready s e = let (some, few) = range-true _ _ e in record { sound = s; some = some; few = few }
+pub in-range-sized : {t : Table} {k : ℕ} → Tabled t → inRange k (t .steps) ≡ true → Sized t k
+in-range-sized s e = let (some, few) = range-true _ _ e in record { good = s .good; clocks = s .clocks; some = some; few = few }

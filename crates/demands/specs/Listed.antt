@@ -5,6 +5,7 @@ use Prim.Native.Nat.{ℕ, _/_}
 use lib.Dec.{leb}
 use lib.IntN.{ℤ}
 use lib.ListN.{length}
+use Rattle.table.specs.Refusal.{placeless}
 use Rattle.table.specs.declared.Fault.{Fault}
 use Rattle.table.specs.declared.Fault.the-variants as fault
 use Rattle.table.specs.declared.Read.the-variants.{Counted, Refused as Denied}
@@ -18,7 +19,7 @@ use Rattle.demands.specs.declared.Listed.the-variants.{Written, Refused}
 
 -- refused for a fault, at place 0; and so unless the test holds
 abbrev pub refusedFor : Fault → Listed
-refusedFor f = Refused (record { fault = f; place = 0 })
+refusedFor f = Refused (placeless f)
 
 abbrev pub need : Bool → Fault → Listed → Listed
 need true f then = then

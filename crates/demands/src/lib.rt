@@ -9,7 +9,7 @@ ghost use Prim.Native.Nat.{min};
 ghost use lib.ListN.{length};
 ghost use Rattle.constraints.specs.Demands.{demandsOf};
 ghost use Rattle.cells.specs.Lines.{cells};
-ghost use Rattle.writing.specs.Ready.{Sound};
+ghost use Rattle.constraints.specs.Sized.{Tabled};
 ghost use Rattle.demands.specs.Listed.{refusedFor, answerOf, listedOf, unlessRefused, rowRoom, rowOf};
 
 // The answer: so many demands are written; or a refusal, and nothing is.
@@ -27,7 +27,7 @@ fn refused(fault: Fault) -> Listed
 
 // The answer for an accepted table.
 fn answer(t: Table, start: Start, k: u64, row: &mut [i64], limit: usize) -> Listed
-    requires { ⌜ Sound t ⌝ }
+    requires { ⌜ Tabled t ⌝ }
     ensures { λ r. ⌜ (r ≡ answerOf (t .steps) k (length (demandsOf t start k)) (min (rowRoom (now (row .entry))) limit))
         × (now (row .exit) ≡ unlessRefused r (cells (demandsOf t start k)) (now (row .entry))) ⌝ }
 {

@@ -21,6 +21,13 @@ use Rattle.format.specs.Located.{Located, bytesIn, bytes-in, located}
 use Rattle.format.specs.Judged.{Told, is-refused, is-head, is-entry, is-finish, is-end, judged}
 use Rattle.format.specs.Ending.{before, Ends, kept-none, ends}
 
+-- A table within the limits, and the counts are its own.
+pub record Counted (l : Listing) (n L g : ℕ) : Type 0 where
+  pub legal : Legal l
+  pub clocks : n ≡ l .clocks
+  pub steps : L ≡ length (l .steps)
+  pub guards : g ≡ guardCount (l .steps)
+
 -- Bytes write a table down: it is within the limits, they are its encoding, and the counts are its own.
 pub record Written (l : Listing) (bytes : List ℕ) (n L g : ℕ) : Type 0 where
   pub legal : Legal l
@@ -82,6 +89,11 @@ pub accepted-written : (bytes : List ℕ) → Bytes bytes → (n L g : ℕ) → 
 accepted-written bytes h n L g e =
     let short = counted-short bytes n L g e in
     written-checked bytes h n L g (sym (read-short bytes short) ∙ e)
+
+-- What most laws ask of accepted bytes.
+pub accepted-counted : (bytes : List ℕ) → Bytes bytes → (n L g : ℕ) → readOf bytes ≡ read.Counted n L g → Counted (listing bytes) n L g
+accepted-counted bytes h n L g e =
+    let w = accepted-written bytes h n L g e in record { legal = w .legal; clocks = w .clocks; steps = w .steps; guards = w .guards }
 
 -- So what is accepted has at most 531 bytes.
 pub accepted-longest : (bytes : List ℕ) → Bytes bytes → (n L g : ℕ) → readOf bytes ≡ read.Counted n L g → length bytes ≤ 531

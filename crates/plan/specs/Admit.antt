@@ -2,19 +2,15 @@
 use mathlib.Core.Path.{_≡_, refl, sym, ap, subst, _∙_}
 use mathlib.Core.List.{List}
 use Prim.Native.Nat.{ℕ, _*_}
-use Rattle.table.specs.Step.{Step, stepsOf}
+use Rattle.table.specs.Step.{Step}
 use Rattle.table.specs.declared.Fault.the-variants as fault
 use Rattle.table.specs.declared.Refusal.{Refusal}
 use Rattle.table.specs.declared.Table.{Table}
 use Rattle.table.specs.declared.Read.the-variants as read
 use Rattle.wire.specs.Reading.{readOf}
-use Rattle.wire.specs.Listing.{listing}
 use Rattle.decode.specs.Fill.{tableOf}
 use Rattle.wire.specs.Records.{Bytes}
-use Rattle.format.specs.Fair.{legal-clocks}
-use Rattle.format.specs.Accepted.{Written, accepted-written}
-use Rattle.decode.specs.Represent.{Represents}
-use Rattle.decode.specs.Meaning.{table-represents}
+use Rattle.decode.specs.Meaning.{Means, accepted-means}
 use Rattle.runs.specs.Run.{copies}
 use Rattle.runs.specs.declared.Start.{Start}
 use Rattle.runs.specs.Demand.{Starts, startsOf}
@@ -25,7 +21,7 @@ use Rattle.plan.specs.declared.Outcome.the-variants as outcome
 use Rattle.plan.specs.Answer.{Rooms, Answered, admitRooms, askingOf, Meets, Answers}
 use Rattle.constraints.specs.Sized.{Tabled, Sized, roundsOf}
 use Rattle.asking.specs.Admitted.{admit-held}
-use Rattle.asking.specs.Rounds.{clocksOf, cycleOf, roundsIn}
+use Rattle.asking.specs.Rounds.{clocksOf, roundsIn}
 use Rattle.solving.specs.Solve.{Roomy}
 
 -- ---- all tests have held
@@ -62,45 +58,32 @@ asking-counted : (bytes : List ℕ) (k : ℕ) (r : Rooms) (n L g : ℕ) → read
 unfolding askingOf
 asking-counted bytes k r n L g e = rw (askingOf, e) refl
 
-module _ (bytes : List ℕ) (small : Bytes bytes) (n L g : ℕ) (e : readOf bytes ≡ read.Counted n L g) where
-  written : Written (listing bytes) bytes n L g
-  written = accepted-written bytes small n L g e
-
-  represents : Represents (tableOf bytes) (listing bytes)
-  represents = table-represents bytes small n L g e
+module _ (bytes : List ℕ) (small : Bytes bytes) (n L g : ℕ) (e : readOf bytes ≡ read.Counted n L g) (t : Table) (f : t ≡ tableOf bytes) where
+  means : Means bytes t n L g
+  means = accepted-means bytes small n L g e t f
 
   -- The table is fit for planning.
-  pub counted-tabled : (t : Table) → t ≡ tableOf bytes → Tabled t
-  counted-tabled t f =
-      rw f
-      (record {
-        good = represents .good;
-        clocks =
-            rw (represents .same, represents .clocks) (legal-clocks (listing bytes) (written .legal));
-      })
+  pub counted-tabled : Tabled t
+  counted-tabled = record { good = means .good; clocks = means .guarded }
+
+  -- What is said of it is said of what the bytes write down. Q speaks of the number of steps of a round, of the clocks, and of the steps of
+  -- k rounds.
+  pub bytes-table : (k : ℕ) (Q : ℕ → ℕ → List Step → Type 0) → Q (t .steps) (t .clocks) (roundsOf t k) → Q L (clocksOf bytes) (roundsIn bytes k)
+  bytes-table k Q q =
+      subst (λ s. Q s (clocksOf bytes) (roundsIn bytes k)) (means .steps)
+      (subst (λ σ. Q (t .steps) (clocksOf bytes) (copies σ k)) (means .same) (subst (λ c. Q (t .steps) c (roundsOf t k)) (means .named) q))
 
   -- Its answer is the answer to the bytes.
-  pub counted-answers : (t : Table) → t ≡ tableOf bytes → (v : Start) (k : ℕ) (r r′ : Rooms) (a : Outcome)
+  pub counted-answers : (v : Start) (k : ℕ) (r r′ : Rooms) (a : Outcome)
       → Meets (admitRooms (t .clocks) (t .steps) k r) (t .clocks) (roundsOf t k) (startsOf v) r r′ a → Answers bytes v k r r′ a
-  counted-answers t f v k r r′ a m =
+  counted-answers v k r r′ a h =
       record {
         answers =
-            subst (λ (q : Admission). Meets q (clocksOf bytes) (roundsIn bytes k) (startsOf v) r r′ a) same
-            (subst (λ (σ : List Step). Meets (admitRooms n L k r) (clocksOf bytes) (copies σ k) (startsOf v) r r′ a) steps
-            (subst (λ (c : ℕ). Meets (admitRooms n L k r) c (roundsOf t k) (startsOf v) r r′ a) clocks
-            (subst (λ (q : Admission). Meets q (t .clocks) (roundsOf t k) (startsOf v) r r′ a) tests m)));
+            subst (λ (q : Admission). Meets q (clocksOf bytes) (roundsIn bytes k) (startsOf v) r r′ a) tests
+            (bytes-table k (λ s c σ. Meets (admitRooms c s k r) c σ (startsOf v) r r′ a) h);
       }
     where
-      clocks : t .clocks ≡ clocksOf bytes
-      clocks = ap (λ (x : Table). x .clocks) f ∙ represents .clocks
-
-      steps : stepsOf t ≡ cycleOf bytes
-      steps = ap stepsOf f ∙ represents .same
-
-      tests : admitRooms (t .clocks) (t .steps) k r ≡ admitRooms n L k r
+      tests : admitRooms (clocksOf bytes) L k r ≡ askingOf bytes k r
       tests =
-          ap (λ (c : ℕ). admitRooms c (t .steps) k r) (clocks ∙ sym (written .clocks))
-          ∙ ap (λ (s : ℕ). admitRooms n s k r) (ap (λ (x : Table). x .steps) f ∙ represents .steps ∙ sym (written .steps))
-
-      same : admitRooms n L k r ≡ askingOf bytes k r
-      same = sym (asking-counted bytes k r n L g e)
+          ap (λ (c : ℕ). admitRooms c L k r) (sym (means .named) ∙ means .clocks)
+          ∙ sym (asking-counted bytes k r n L g e)

@@ -8,7 +8,7 @@ use Rattle.table.specs.declared.Read.the-variants as read
 use Rattle.wire.specs.Reading.{readOf}
 use Rattle.wire.specs.Listing.{stepOf, listing}
 use Rattle.wire.specs.Records.{Bytes}
-use Rattle.format.specs.Accepted.{Written, accepted-written}
+use Rattle.format.specs.Accepted.{Counted, accepted-counted}
 use Rattle.format.specs.Fair.{legal-clocks, legal-fair}
 use Rattle.asking.specs.Rounds.{clocksOf, cycleOf, roundsIn}
 use Rattle.runs.specs.declared.Start.the-variants.{LogIn}
@@ -47,8 +47,8 @@ tabled bytes small n L g e =
       admits = λ k r. rw (askingOf, e) refl;
     }
   where
-    w : Written (listing bytes) bytes n L g
-    w = accepted-written bytes small n L g e
+    w : Counted (listing bytes) n L g
+    w = accepted-counted bytes small n L g e
 
 -- one or two rounds of it, of which a run from log-in exists
 pub record Plannable (bytes : List ℕ) (n L k : ℕ) : Type 0 where

@@ -9,6 +9,7 @@ use lib.Dec.{leb}
 use lib.IntN.{ℤ}
 use lib.ListN.{length, getD}
 use borrow.Author.Tests.{le-leb, lt-leb}
+use Rattle.table.specs.Refusal.{placeless}
 use Rattle.table.specs.Step.{Step}
 use Rattle.table.specs.declared.Fault.{Fault}
 use Rattle.table.specs.declared.Fault.the-variants as fault
@@ -89,7 +90,7 @@ abbrev Wrote : ℕ → Listed → Type 0
 Wrote m o = o ≡ listed.Written m
 
 abbrev placed : Bool → Fault → Listed → Listed
-placed b f rest = cond b rest (listed.Refused (record { fault = f; place = 0 }))
+placed b f rest = cond b rest (listed.Refused (placeless f))
 
 need-placed : (b : Bool) (f : Fault) (rest : Listed) → need b f rest ≡ placed b f rest
 need-placed true f rest = refl

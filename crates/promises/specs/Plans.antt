@@ -7,7 +7,7 @@ use native.Mathlib.Omega.{arith}
 use lib.ListN.{length, getD, take, length-map}
 use Rattle.table.specs.Step.{Step}
 use Rattle.wire.specs.Listing.{listing, stepOf}
-use Rattle.format.specs.Accepted.{accepted-written}
+use Rattle.format.specs.Accepted.{accepted-counted}
 use Rattle.runs.specs.declared.Start.{Start}
 use Rattle.runs.specs.Demand.{Starts, startsOf}
 use Rattle.runs.specs.Loop.{Loop}
@@ -63,13 +63,13 @@ looping admission.Accepted n σ D r r′ m h = h
 -- ---- of a table with n clocks and L steps
 module _ (bytes : List ℕ) (n L g : ℕ) (table : IsTable bytes n L g) where
   pub clocks-are : clocksOf bytes ≡ n
-  clocks-are = sym (accepted-written bytes (table .small) n L g (table .accepted) .clocks)
+  clocks-are = sym (accepted-counted bytes (table .small) n L g (table .accepted) .clocks)
 
   pub steps-are : (k : ℕ) → length (roundsIn bytes k) ≡ k * L
   steps-are k =
       length-copies (cycleOf bytes) k
       ∙ ap (λ m. k * m)
-      (length-map (listing bytes .steps) stepOf ∙ sym (accepted-written bytes (table .small) n L g (table .accepted) .steps))
+      (length-map (listing bytes .steps) stepOf ∙ sym (accepted-counted bytes (table .small) n L g (table .accepted) .steps))
 
   module _ (v : Start) (k : ℕ) (before after : plan.Rooms) (a : List ℕ) (s : PlanSays bytes v k before after a) where
     pub plan-given : (P : ℕ) → GivesPlan a P → plan.Planning (clocksOf bytes) (roundsIn bytes k) (startsOf v) before after P

@@ -5,7 +5,7 @@ use mathlib.Core.List.{List}
 use Prim.Native.Nat.{ℕ, _<_}
 use native.Mathlib.Omega.{arith}
 use lib.ListN.{getD}
-use Rattle.table.specs.Refusal.{numberOf}
+use Rattle.table.specs.Refusal.{numberOf, placeless}
 use Rattle.table.specs.declared.Fault.{Fault}
 use Rattle.table.specs.declared.Fault.the-variants as fault
 use Rattle.table.specs.declared.Refusal.{Refusal}
@@ -37,24 +37,20 @@ number-some fault.Card = omega arith
 number-some fault.Output = omega arith
 number-some fault.Stretch = omega arith
 
--- a refusal for a fault, with place 0
-abbrev pub atStart : Fault → Refusal
-atStart f = record { fault = f; place = 0 }
-
 module _ {A : Type 0} (refused : Refusal → A) (done : A → Type 0) where
   -- q is the refusal with this number, and place 0; or it is done, and the number is 0
   pub data Told (q : A) (number : ℕ) : Type 0 where
-    fails : (f : Fault) → q ≡ refused (atStart f) → number ≡ numberOf f → Told q number
+    fails : (f : Fault) → q ≡ refused (placeless f) → number ≡ numberOf f → Told q number
     passes : done q → number ≡ 0 → Told q number
 
   -- one test more in front
   pub told-test : (b : Bool) (f : Fault) (rest : A) (number : ℕ) → Told rest number
-      → Told (cond b rest (refused (atStart f))) (row (numberOf f) b number)
+      → Told (cond b rest (refused (placeless f))) (row (numberOf f) b number)
   told-test true f rest number t = t
   told-test false f rest number t = fails f refl refl
 
 -- what is told of a refusal, in numbers
-pub refuses-fault : (f : Fault) (number : ℕ) (kept : Type 0) (a : List ℕ) → number ≡ numberOf f → a ≡ refusedNumbers (atStart f) → kept
+pub refuses-fault : (f : Fault) (number : ℕ) (kept : Type 0) (a : List ℕ) → number ≡ numberOf f → a ≡ refusedNumbers (placeless f) → kept
     → Refuses number kept a
 refuses-fault f number kept a e h k =
     record {

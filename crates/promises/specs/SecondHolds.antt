@@ -5,7 +5,7 @@ use Prim.Native.Nat.{ℕ, _≤_}
 use native.Mathlib.Omega.{arith}
 use lib.ListN.{length, getD, take}
 use Rattle.wire.specs.Listing.{listing}
-use Rattle.format.specs.Accepted.{accepted-written}
+use Rattle.format.specs.Accepted.{accepted-counted}
 use Rattle.format.specs.Fair.{legal-plain}
 use Rattle.runs.specs.declared.Start.{Start}
 use Rattle.runs.specs.Demand.{startsOf, Allowed}
@@ -34,7 +34,7 @@ loop-moments bytes n L g t v k after a l =
     loop-two (clocksOf bytes) (roundsIn bytes k) (startsOf v) (take (getD a 2 0) (after .loop))
     (guards-on bytes (t .small) k n L g (t .accepted))
     (plains-copies (cycleOf bytes) k
-    (legal-plain (listing bytes) (accepted-written bytes (t .small) n L g (t .accepted) .legal)))
+    (legal-plain (listing bytes) (accepted-counted bytes (t .small) n L g (t .accepted) .legal)))
     (upper-apart (clocksOf bytes) (startsOf v) (start-upper v (clocksOf bytes))) (l .2)
 
 -- The second promise.

@@ -1,6 +1,6 @@
 -- The question put to bytes: they are refused, or accepted, and then the table by value is the table they write down.
 use mathlib.Core.Path.{_≡_, refl, sym, _∙_}
-use mathlib.Core.List.{List, List·Memᴰ}
+use mathlib.Core.List.{List}
 use Prim.Native.Nat.{ℕ, _+_}
 use native.Mathlib.Omega.{arith}
 use Rattle.table.specs.declared.Read.{Read}
@@ -10,16 +10,12 @@ use Rattle.table.specs.declared.Table.{Table}
 use Rattle.table.specs.Step.{Step, stepsOf, Good}
 use Rattle.runs.specs.declared.Start.{Start}
 use Rattle.runs.specs.Demand.{Starts, startsOf}
-use Rattle.format.specs.Encode.{Legal}
-use Rattle.format.specs.Accepted.{accepted-written}
-use Rattle.format.specs.Fair.{legal-clocks, legal-resets}
 use Rattle.joins.specs.Round.{UsesAll}
 use Rattle.wire.specs.Reading.{readOf}
 use Rattle.wire.specs.Listing.{listing, cycle}
 use Rattle.decode.specs.Fill.{tableOf}
 use Rattle.wire.specs.Records.{Bytes}
-use Rattle.decode.specs.Represent.{Represents}
-use Rattle.decode.specs.Meaning.{table-represents}
+use Rattle.decode.specs.Meaning.{Means, accepted-means}
 use Rattle.rounds.specs.declared.Count.{Count}
 use Rattle.rounds.specs.declared.Count.the-variants.{Refused}
 use Rattle.rounds.specs.Answer.{Counts, Answers}
@@ -32,33 +28,23 @@ module _ (bytes : List ℕ) (v : Start) (a : Read) (e : a ≡ readOf bytes) wher
   answers-refused f q = rw (sym e ∙ q) refl
 
   module _ (t : Table) (s : t ≡ tableOf bytes) (small : Bytes bytes) (n L g : ℕ) (q : a ≡ read.Counted n L g) where
-    represents : Represents t (listing bytes)
-    represents = rw s (table-represents bytes small n L g (sym e ∙ q))
+    means : Means bytes t n L g
+    means = accepted-means bytes small n L g (sym e ∙ q) t s
 
     pub accepted-good : Good t
-    accepted-good = represents .good
-
-    legal : Legal (listing bytes)
-    legal = accepted-written bytes small n L g (sym e ∙ q) .legal
+    accepted-good = means .good
 
     -- Its steps use no clock that it does not have.
     pub accepted-uses : UsesAll (t .clocks + 1) t
     accepted-uses s m = record {
-      guards = λ g i. omega (arith, represents .clocks, legal-clocks (listing bytes) legal s member g i);
-      resets = λ j h k. legal-resets (listing bytes) legal s member j (omega (arith, represents .clocks)) k;
+      guards = λ g i. let c = means .guarded s m g i in omega (arith, c .0, c .1, c .2);
+      resets = λ j h k. means .reset s m j (omega arith) k;
     }
-      where
-        member : List·Memᴰ s (cycle (listing bytes))
-        member = rw (represents .same) at m
 
     -- Its clocks, as many as were read, and its steps are those that the bytes write down.
     pub accepted-same : (n ≡ t .clocks) × (t .clocks ≡ listing bytes .clocks) × (stepsOf t ≡ cycle (listing bytes))
-    accepted-same = (
-      accepted-written bytes small n L g (sym e ∙ q) .clocks ∙ sym (represents .clocks),
-      represents .clocks,
-      represents .same,
-    )
+    accepted-same = (sym (means .clocks), means .named, means .same)
 
     pub answers-counted : (r : Count) → Counts (t .clocks) (startsOf v) (stepsOf t) r → Answers (readOf bytes) bytes v r
     answers-counted r h =
-        rw (sym e ∙ q) (counts-same r (represents .clocks) (represents .same) h)
+        rw (sym e ∙ q) (counts-same r (means .named) (means .same) h)

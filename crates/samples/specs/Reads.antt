@@ -12,7 +12,7 @@ use Rattle.wire.specs.Reading.{readOf}
 use Rattle.wire.specs.Listing.{listing}
 use Rattle.format.specs.Encode.{Legal}
 use Rattle.wire.specs.Records.{Bytes}
-use Rattle.format.specs.Accepted.{accepted-written}
+use Rattle.format.specs.Accepted.{accepted-counted}
 use Rattle.samples.specs.Checks.{both, all}
 use Rattle.samples.specs.Follows.{Accepted}
 
@@ -39,5 +39,5 @@ accepts-legal bytes e = go (both e) (readOf bytes) refl
         → Accepted bytes × Legal (listing bytes)
     go (b, c) (Refused f) q = absurd (false≢true (ap counted (sym q) ∙ c))
     go (b, c) (Counted n L g) q =
-        let w = accepted-written bytes (all-bytes bytes b) n L g q in
+        let w = accepted-counted bytes (all-bytes bytes b) n L g q in
         (record { steps = L; guards = g; read = q ∙ ap (λ m. Counted m L g) (w .clocks) }, w .legal)

@@ -6,6 +6,7 @@ use Prim.Native.Nat.{ℕ, zero, suc, _-_, _≤_, _<_}
 use native.Mathlib.Omega.{arith}
 use lib.ListN.{length, getD, length-map}
 use borrow.Author.Tests.{eq-eqb, ne-eqb}
+use Rattle.table.specs.Refusal.{placeless}
 use Rattle.table.specs.Step.{Step}
 use Rattle.table.specs.Steps.{member-at}
 use Rattle.table.specs.declared.Fault.the-variants as fault
@@ -15,7 +16,7 @@ use Rattle.wire.specs.Records.{Bytes}
 use Rattle.wire.specs.Reading.{readOf}
 use Rattle.wire.specs.Listing.{Entry, guardsOf, listing, stepOf}
 use Rattle.format.specs.Encode.{LegalEntry}
-use Rattle.format.specs.Accepted.{Written, accepted-written}
+use Rattle.format.specs.Accepted.{Counted, accepted-counted}
 use Rattle.asking.specs.Rounds.{cycleOf}
 use Rattle.ticks.specs.Ticks.{elapsedOf}
 use Rattle.scans.specs.declared.Running.{Running}
@@ -37,8 +38,8 @@ map-at (s ∷ ss) (suc i) d h = map-at ss i d (omega arith)
 
 -- bytes that are accepted, and a record
 module _ (bytes : List ℕ) (small : Bytes bytes) (n L g : ℕ) (e : readOf bytes ≡ read.Counted n L g) (r : Running) (counter : ℕ) where
-  w : Written (listing bytes) bytes n L g
-  w = accepted-written bytes small n L g e
+  w : Counted (listing bytes) n L g
+  w = accepted-counted bytes small n L g e
 
   pub clocks-few : n ≤ 6
   clocks-few = omega (arith, w .clocks, w .legal .clocks-few)
@@ -124,7 +125,7 @@ module _ (bytes : List ℕ) (small : Bytes bytes) (n L g : ℕ) (e : readOf byte
         (λ i. concludedBy (same i) n (passed i) L r counter) ∙ go (fits n L r) refl ∙ sym (ap (answeredBy bytes r counter) e)
       where
         refused : Scanned
-        refused = refusedWith r (record { fault = fault.Record; place = 0 })
+        refused = refusedWith r (placeless fault.Record)
 
         go : (b : Bool) → fits n L r ≡ b
             → cond b (decidedBy q n ticks L r counter) refused ≡ cond b (scanned (cycleOf bytes) n r counter) refused

@@ -5,6 +5,7 @@ use Prim.Native.Nat.{ℕ, _+_, _-_}
 use lib.Dec.{eqb, ltb}
 use lib.ListN.{getD}
 use Rattle.basics.specs.Tab.{tab}
+use Rattle.table.specs.Refusal.{placeless}
 use Rattle.table.specs.declared.Fault.the-variants as fault
 use Rattle.table.specs.declared.Guard.{Guard}
 use Rattle.records.specs.declared.Tally.{Tally}
@@ -94,4 +95,4 @@ abbrev pub concludedBy : Progress → ℕ → ℕ → ℕ → Running → ℕ �
 concludedBy p n ticks L r counter =
     cond (fits n L r)
     (decidedBy p n ticks L r counter)
-    (refusedWith r (record { fault = fault.Record; place = 0 }))
+    (refusedWith r (placeless fault.Record))

@@ -2,6 +2,7 @@
 use mathlib.Core.Bool.{cond}
 use mathlib.Core.List.{List}
 use Prim.Native.Nat.{ℕ}
+use Rattle.table.specs.Refusal.{placeless}
 use Rattle.table.specs.declared.Fault.the-variants as fault
 use Rattle.table.specs.declared.Read.{Read}
 use Rattle.table.specs.declared.Read.the-variants as read
@@ -22,7 +23,7 @@ abbrev pub judgedBy : List ℕ → ℕ → ℕ → Running → ℕ → Scanned
 judgedBy bytes n L r counter =
     cond (fits n L r)
     (scanned (cycleOf bytes) n r counter)
-    (refusedWith r (record { fault = fault.Record; place = 0 }))
+    (refusedWith r (placeless fault.Record))
 
 -- the table's own faults come first
 abbrev pub answeredBy : List ℕ → Running → ℕ → Read → Scanned

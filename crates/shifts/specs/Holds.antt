@@ -14,7 +14,7 @@ use Rattle.ticks.specs.Ticks.{counterAt}
 use Rattle.wire.specs.Records.{Bytes}
 use Rattle.wire.specs.Reading.{readOf}
 use Rattle.wire.specs.Listing.{listing, stepOf}
-use Rattle.format.specs.Accepted.{Written, accepted-written}
+use Rattle.format.specs.Accepted.{Counted, accepted-counted}
 use Rattle.format.specs.Fair.{legal-plain, legal-clocks, legal-fair}
 use Rattle.runs.specs.Run.{Run}
 use Rattle.runs.specs.Start.{start-upper}
@@ -103,8 +103,8 @@ module _ (σ : List Step) (n first : ℕ) (w : Limits σ n) (s : Shift) (k : Kep
 -- ---- accepted bytes
 module _ (bytes : List ℕ) (h : Bytes bytes) (n L g : ℕ) (e : readOf bytes ≡ read.Counted n L g) where
   -- they write down a table
-  written : Written (listing bytes) bytes n L g
-  written = accepted-written bytes h n L g e
+  written : Counted (listing bytes) n L g
+  written = accepted-counted bytes h n L g e
 
   -- of L steps
   pub size : L ≡ length (cycleOf bytes)

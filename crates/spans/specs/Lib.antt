@@ -6,5 +6,3 @@ pub mod Solutions
 -- the plan's moments and the bounds tell the spans
 pub mod Found
 pub mod Exact
--- from a table to its bytes
-pub mod Bytes

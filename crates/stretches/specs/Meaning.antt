@@ -10,6 +10,7 @@ use Rattle.wire.specs.Records.{Bytes, Record, recordsFrom}
 use Rattle.wire.specs.Reading.{readOf}
 use Rattle.wire.specs.Listing.{Entry, guard, reset, Listing, listing}
 use Rattle.format.specs.Encode.{encode, entryBytes, stepBytes, guardCount, LegalEntry, LegalStep, LegalSteps, Legal}
+use Rattle.format.specs.Accepted.{Counted}
 use Rattle.format.specs.Shapes.{entryAt, guard-back}
 use Rattle.format.specs.Encoded.{records-more}
 use Rattle.format.specs.Encoded as plain
@@ -74,12 +75,6 @@ sound-legal n d is (sound-stretch _ times js ks low high deep some inner h) s m 
     (List·Memᴰ·append-cases (copies times (expand js)) m)
 
 -- Accepted bytes mean a table within the limits, and the counts are its own.
-pub record Counted (l : Listing) (n L g : ℕ) : Type 0 where
-  pub legal : Legal l
-  pub clocks : n ≡ l .clocks
-  pub steps : L ≡ length (l .steps)
-  pub guards : g ≡ guardCount (l .steps)
-
 pub accepted-counted : (bytes : List ℕ) → Bytes bytes → (n L g : ℕ)
     → readOut bytes ≡ read.Counted n L g → Counted (writtenOut bytes) n L g
 accepted-counted bytes small n L g e =

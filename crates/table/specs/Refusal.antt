@@ -3,7 +3,12 @@ use mathlib.Core.Bool.{Bool, _&&_, _||_}
 use Prim.Native.Nat.{ℕ}
 use lib.Dec.{eqb, leb}
 use Rattle.table.specs.declared.Fault.{Fault}
+use Rattle.table.specs.declared.Refusal.{Refusal}
 use Rattle.table.specs.declared.Fault.the-variants.{Length, Cut, Kind, Head, Bounds, Timer, Relation, Constant, Steps, Tail, Rounds, Times, Starts, Loop, List, Twice, Record, Tray, Verdicts, Card, Output, Stretch}
+
+-- a refusal for which no place is named: it has place 0
+abbrev pub placeless : Fault → Refusal
+placeless f = record { fault = f; place = 0 }
 
 abbrev pub numberOf : Fault → ℕ
 numberOf Length = 1

@@ -13,13 +13,9 @@ use Rattle.table.specs.Step.{stepsOf, Good}
 use Rattle.table.specs.Steps.{length-steps}
 use Rattle.wire.specs.Records.{Bytes}
 use Rattle.wire.specs.Reading.{readOf}
-use Rattle.wire.specs.Listing.{listing}
-use Rattle.format.specs.Accepted.{Written, accepted-written}
-use Rattle.format.specs.Fair.{legal-clocks}
 use Rattle.runs.specs.Demand.{Clocks}
 use Rattle.decode.specs.Fill.{tableOf}
-use Rattle.decode.specs.Represent.{Represents}
-use Rattle.decode.specs.Meaning.{table-represents}
+use Rattle.decode.specs.Meaning.{Means, accepted-means}
 use Rattle.scans.specs.declared.Running.{Running}
 use Rattle.scans.specs.declared.Verdict.{Verdict}
 use Rattle.scans.specs.Scan.{fits, scanned}
@@ -60,25 +56,14 @@ module _ (bytes : List ℕ) (r : Running) (counters room : List ℕ) (a : Read) 
     counted : readOf bytes ≡ read.Counted n L g
     counted = sym e ∙ q
 
-    represents : Represents t (listing bytes)
-    represents = rw s (table-represents bytes small n L g counted)
-
-    written : Written (listing bytes) bytes n L g
-    written = accepted-written bytes small n L g counted
+    means : Means bytes t n L g
+    means = accepted-means bytes small n L g counted t s
 
     pub accepted-good : Good t
-    accepted-good = represents .good
+    accepted-good = means .good
 
     pub accepted-clocks : Clocks (t .clocks) (stepsOf t)
-    accepted-clocks s m g i =
-        let c = legal-clocks (listing bytes) (written .legal) s (rw (represents .same) at m) g i in
-        (c .0, omega (arith, c .1, represents .clocks), omega (arith, c .2, represents .clocks))
-
-    clocks-are : t .clocks ≡ n
-    clocks-are = represents .clocks ∙ sym (written .clocks)
-
-    steps-are : t .steps ≡ L
-    steps-are = represents .steps ∙ sym (written .steps)
+    accepted-clocks = means .guarded
 
     -- a record that the table can go on from
     abbrev Goes : Running → Type 0
@@ -87,8 +72,8 @@ module _ (bytes : List ℕ) (r : Running) (counters room : List ℕ) (a : Read) 
     -- one scan from it
     scan-is : (r : Running) (c : ℕ) → Goes r → scanBy t r c ≡ scanOf bytes r c
     scan-is r c can =
-        (λ i. scanned (represents .same i) (clocks-are i) r c)
-        ∙ sym (scan-judged bytes n L g counted r c (sym (λ i. fits (clocks-are i) (steps-are i) r) ∙ can))
+        (λ i. scanned (means .same i) (means .clocks i) r c)
+        ∙ sym (scan-judged bytes n L g counted r c (sym (λ i. fits (means .clocks i) (means .steps i) r) ∙ can))
 
     scan-fits : (r : Running) (c : ℕ) → Goes r → Goes (scanBy t r c .running)
     scan-fits r c = fits-scanned (stepsOf t) (t .clocks) (t .steps) r c (accepted-good .clocks-few) (length-steps t)
@@ -104,7 +89,7 @@ module _ (bytes : List ℕ) (r : Running) (counters room : List ℕ) (a : Read) 
     outcome-of : by-verdicts (verdictsBy (scanOf bytes) r counters) (t .clocks) (t .steps) ≡ outcomeOf bytes r counters (length room)
     unfolding outcomeOf
     outcome-of =
-        (λ i. by-verdicts (verdictsBy (scanOf bytes) r counters) (clocks-are i) (steps-are i))
+        (λ i. by-verdicts (verdictsBy (scanOf bytes) r counters) (means .clocks i) (means .steps i))
         ∙ sym (ap (outcomeBy bytes r counters (length room)) counted)
 
     -- Where the table can go on from the record, the scans are the same; where it cannot, they do not matter.

@@ -9,6 +9,7 @@ use lib.Dec.{eqb}
 use lib.ListN.{length, getD, drop, set, length-set, length-map, drop-of-length-le}
 use lib.Seq.{sets, sets-eq, drop-cons}
 use borrow.Author.Tests.{ne-eqb}
+use Rattle.table.specs.Refusal.{placeless}
 use Rattle.table.specs.declared.Fault.{Fault}
 use Rattle.table.specs.declared.Fault.the-variants as fault
 use Rattle.table.specs.declared.Table.{Table}
@@ -148,21 +149,21 @@ module _ (t : Table) (r : Running) (counters room : List ℕ) where
       }
 
   -- refused with a fault
-  refused-with : (f : Fault) → Refused (record { fault = f; place = 0 }) ≡ outcomeIn t r counters (length room) → (told : Trayed)
-      → told ≡ record { outcome = Refused (record { fault = f; place = 0 }); running = r } → Given t r counters room told room
-  refused-with f is told e = told-by (Refused (record { fault = f; place = 0 })) is told room (ap (λ x. x .outcome) e) (ap (λ x. x .running) e) refl
+  refused-with : (f : Fault) → Refused (placeless f) ≡ outcomeIn t r counters (length room) → (told : Trayed)
+      → told ≡ record { outcome = Refused (placeless f); running = r } → Given t r counters room told room
+  refused-with f is told e = told-by (Refused (placeless f)) is told room (ap (λ x. x .outcome) e) (ap (λ x. x .running) e) refl
 
   pub given-record : fits (t .clocks) (t .steps) r ≡ false → (told : Trayed)
-      → told ≡ record { outcome = Refused (record { fault = fault.Record; place = 0 }); running = r } → Given t r counters room told room
+      → told ≡ record { outcome = Refused (placeless fault.Record); running = r } → Given t r counters room told room
   given-record cannot = refused-with fault.Record (sym (admitted-not (t .clocks) (t .steps) r counters (length room) _ cannot))
 
   module _ (can : fits (t .clocks) (t .steps) r ≡ true) where
     pub given-tray : 256 < length counters → (told : Trayed)
-        → told ≡ record { outcome = Refused (record { fault = fault.Tray; place = 0 }); running = r } → Given t r counters room told room
+        → told ≡ record { outcome = Refused (placeless fault.Tray); running = r } → Given t r counters room told room
     given-tray many = refused-with fault.Tray (sym (admitted-many (t .clocks) (t .steps) r counters (length room) _ can many))
 
     pub given-verdicts : length counters ≤ 256 → length room < length counters → (told : Trayed)
-        → told ≡ record { outcome = Refused (record { fault = fault.Verdicts; place = 0 }); running = r } → Given t r counters room told room
+        → told ≡ record { outcome = Refused (placeless fault.Verdicts); running = r } → Given t r counters room told room
     given-verdicts few short =
         refused-with fault.Verdicts (sym (admitted-short (t .clocks) (t .steps) r counters (length room) _ can few short))
 

@@ -20,6 +20,7 @@ ghost use Prim.Native.Nat.{_≤_, _<_};
 ghost use lib.Dec.{eqb, ltb};
 ghost use lib.ListN.{length};
 ghost use lib.Seq.{sets};
+ghost use Rattle.table.specs.Refusal.{placeless};
 ghost use Rattle.table.specs.Step.{Good, stepsOf};
 ghost use Rattle.ticks.specs.Ticks.{laterOf};
 ghost use Rattle.runs.specs.Demand.{Clocks};
@@ -145,7 +146,7 @@ fn give(t: Table, running: Running, counters: &[u16], verdicts: &mut [u16]) -> T
 
 // A fault that has no place.
 fn refuse(running: Running, fault: Fault) -> Trayed
-    ensures { λ r. ⌜ r ≡ record { outcome = Outcome.Refused (record { fault = fault; place = 0 }); running = running } ⌝ }
+    ensures { λ r. ⌜ r ≡ record { outcome = Outcome.Refused (placeless fault); running = running } ⌝ }
 {
     Trayed {
         outcome: Outcome::Refused(Refusal { fault, place: 0 }),

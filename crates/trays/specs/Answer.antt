@@ -4,6 +4,7 @@ use mathlib.Core.List.{List, _++_}
 use Prim.Native.Nat.{ℕ}
 use lib.Dec.{leb}
 use lib.ListN.{length, drop}
+use Rattle.table.specs.Refusal.{placeless}
 use Rattle.table.specs.declared.Fault.{Fault}
 use Rattle.table.specs.declared.Fault.the-variants as fault
 use Rattle.table.specs.declared.Read.{Read}
@@ -19,7 +20,7 @@ use Rattle.trays.specs.Tray.{verdictsBy, runningBy, verdictRow, accepted
 
 -- a test, and the fault where it fails, at place 0
 abbrev pub orElse : Bool → Fault → Outcome → Outcome
-orElse b f o = cond b o (Refused (record { fault = f; place = 0 }))
+orElse b f o = cond b o (Refused (placeless f))
 
 -- The tests of a tray of some counters, and of a room for so many verdicts, by a table that is accepted: 17 for a record that the table cannot
 -- go on from, 18 for more than 256 counters, 19 for a room with fewer places than counters.

@@ -7,6 +7,7 @@ use Prim.Native.Nat.{ℕ, zero, suc, _≤_, _<_}
 use lib.Dec.{leb}
 use lib.ListN.{length, drop}
 use borrow.Author.Tests.{le-leb, lt-leb}
+use Rattle.table.specs.Refusal.{placeless}
 use Rattle.table.specs.Step.{Step}
 use Rattle.table.specs.declared.Fault.the-variants as fault
 use Rattle.table.specs.declared.Read.the-variants as read
@@ -89,15 +90,15 @@ module _ (n L : ℕ) (r : Running) (counters : List ℕ) (places : ℕ) (o : Out
   abbrev tests : Bool → Bool → Bool → Outcome
   tests can few enough = orElse can fault.Record (orElse few fault.Tray (orElse enough fault.Verdicts o))
 
-  pub admitted-not : fits n L r ≡ false → admitted n L r counters places o ≡ Refused (record { fault = fault.Record; place = 0 })
+  pub admitted-not : fits n L r ≡ false → admitted n L r counters places o ≡ Refused (placeless fault.Record)
   admitted-not cannot = ap (λ can. tests can (leb (length counters) 256) (leb (length counters) places)) cannot
 
   module _ (can : fits n L r ≡ true) where
-    pub admitted-many : 256 < length counters → admitted n L r counters places o ≡ Refused (record { fault = fault.Tray; place = 0 })
+    pub admitted-many : 256 < length counters → admitted n L r counters places o ≡ Refused (placeless fault.Tray)
     admitted-many many = λ i. tests (can i) (lt-leb (length counters) 256 many i) (leb (length counters) places)
 
     pub admitted-short : length counters ≤ 256 → places < length counters
-        → admitted n L r counters places o ≡ Refused (record { fault = fault.Verdicts; place = 0 })
+        → admitted n L r counters places o ≡ Refused (placeless fault.Verdicts)
     admitted-short few short = λ i. tests (can i) (le-leb (length counters) 256 few i) (lt-leb (length counters) places short i)
 
     pub admitted-all : length counters ≤ 256 → length counters ≤ places → admitted n L r counters places o ≡ o
@@ -112,14 +113,14 @@ module _ (bytes : List ℕ) (n L g : ℕ) (e : readOf bytes ≡ read.Counted n L
 
   -- too many counters
   pub outcome-many : (places : ℕ) → 256 < length counters
-      → outcomeOf bytes r counters places ≡ Refused (record { fault = fault.Tray; place = 0 })
+      → outcomeOf bytes r counters places ≡ Refused (placeless fault.Tray)
   outcome-many places many = outcome-by places ∙ admitted-many n L r counters places _ can many
 
   -- at most 256
   module _ (few : length counters ≤ 256) where
     -- a room that is too short
     pub outcome-short : (places : ℕ) → places < length counters
-        → outcomeOf bytes r counters places ≡ Refused (record { fault = fault.Verdicts; place = 0 })
+        → outcomeOf bytes r counters places ≡ Refused (placeless fault.Verdicts)
     outcome-short places short = outcome-by places ∙ admitted-short n L r counters places _ can few short
 
     -- the tray is not refused

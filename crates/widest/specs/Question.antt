@@ -3,6 +3,7 @@ use mathlib.Core.Path.{_≡_, refl, sym, subst}
 use mathlib.Core.Bool.{true, false, cond}
 use mathlib.Core.List.{List}
 use Prim.Native.Nat.{ℕ}
+use Rattle.table.specs.Refusal.{placeless}
 use Rattle.table.specs.Step.{Step}
 use Rattle.table.specs.declared.Fault.the-variants as fault
 use Rattle.table.specs.declared.Refusal.{Refusal}
@@ -16,7 +17,7 @@ use Rattle.asking.specs.Admission.{refusedFor, inRange}
 use Rattle.asking.specs.Admitted.{range-true}
 use Rattle.asking.specs.Rounds.{clocksOf, roundsIn}
 use Rattle.constraints.specs.Sized.{Tabled, Sized, roundsOf}
-use Rattle.spans.specs.Bytes.{bytes-table}
+use Rattle.plan.specs.Admit.{bytes-table}
 use Rattle.widest.specs.declared.Answer.{Answer}
 use Rattle.widest.specs.declared.Answer.the-variants as answer
 use Rattle.widest.specs.Answer.{admitOf, askingOf, Answered, Meets, Answers}
@@ -29,9 +30,9 @@ module _ (t : Table) (k : ℕ) where
 
   module _ (n : ℕ) (σ : List Step) where
     pub meets-refused : inRange k (t .steps) ≡ false
-        → Meets (admitOf (t .steps) k) n σ (answer.Refused (record { fault = fault.Rounds; place = 0 }))
+        → Meets (admitOf (t .steps) k) n σ (answer.Refused (placeless fault.Rounds))
     meets-refused e =
-        subst (λ q. Meets (cond q admission.Accepted (refusedFor fault.Rounds)) n σ (answer.Refused (record { fault = fault.Rounds; place = 0 })))
+        subst (λ q. Meets (cond q admission.Accepted (refusedFor fault.Rounds)) n σ (answer.Refused (placeless fault.Rounds)))
         (sym e) refl
 
     pub meets-accepted : (a : Answer) → inRange k (t .steps) ≡ true → Answered n σ a → Meets (admitOf (t .steps) k) n σ a

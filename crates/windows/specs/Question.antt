@@ -15,7 +15,7 @@ use Rattle.asking.specs.declared.Admission.the-variants as admission
 use Rattle.asking.specs.Rounds.{clocksOf, roundsIn}
 use Rattle.constraints.specs.Sized.{Tabled, Sized, roundsOf}
 use Rattle.showing.specs.Shown.{Room}
-use Rattle.spans.specs.Bytes.{bytes-table}
+use Rattle.plan.specs.Admit.{bytes-table}
 use Rattle.windows.specs.declared.Panel.{Panel}
 use Rattle.windows.specs.declared.Panel.the-variants as panel
 use Rattle.windows.specs.Admit.{admitOf, askingOf, admit-held}

@@ -21,25 +21,25 @@ use Rattle.constraints.specs.Resets.{fresh-same}
 use Rattle.constraints.specs.Rounds.{length-rounds, fairs-drop}
 use Rattle.constraints.specs.Demands.{all-proper}
 use Rattle.cells.specs.Lines.{cells, over, Small}
-use Rattle.writing.specs.Ready.{Ready}
+use Rattle.constraints.specs.Sized.{Sized}
 use Rattle.cells.specs.Writing.{Fits, Left, left-all, left-as, sets-over}
 use Rattle.writing.specs.Passed.{startsDue, stepsDue, Passed}
 
-module _ {t : Table} {k : ℕ} (ready : Ready t k) where
+module _ {t : Table} {k : ℕ} (ready : Sized t k) where
   σ : List Step
   σ = copies (stepsOf t) k
 
   -- what is left of the rounds is fair
   pub rounds-fair : (i : ℕ) → Fairs (drop i (copies (stepsOf t) k))
-  rounds-fair i = fairs-drop i (copies (stepsOf t) k) (fairs-copies (stepsOf t) k (ready .sound .good .fair))
+  rounds-fair i = fairs-drop i (copies (stepsOf t) k) (fairs-copies (stepsOf t) k (ready .good .fair))
 
   module _ (v : Start) where
     all-small : Every Small (demandsOf t v k)
     all-small d m =
-        let h : Proper (k * t .steps + t .clocks) d = all-proper t v k (ready .sound .good) (ready .sound .clocks) d m in
+        let h : Proper (k * t .steps + t .clocks) d = all-proper t v k (ready .good) (ready .clocks) d m in
         record {
-          from = omega (arith, h .from, ready .few, ready .sound .good .clocks-few);
-          to = omega (arith, h .to, ready .few, ready .sound .good .clocks-few);
+          from = omega (arith, h .from, ready .few, ready .good .clocks-few);
+          to = omega (arith, h .to, ready .few, ready .good .clocks-few);
           up = h .up;
           down = h .down;
         }
@@ -60,7 +60,7 @@ module _ {t : Table} {k : ℕ} (ready : Ready t k) where
     passed-first {z} row h e =
         record {
           round = 0;
-          step = omega (arith, ready .sound .good .steps-some);
+          step = omega (arith, ready .good .steps-some);
           steps = omega arith;
           few = omega arith;
           resets = ap length e;

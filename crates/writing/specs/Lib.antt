@@ -1,4 +1,3 @@
-pub mod Ready
 pub mod Tally
 pub mod Passed
 pub mod Ends

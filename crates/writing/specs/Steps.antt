@@ -22,12 +22,12 @@ use Rattle.constraints.specs.Guards.{guards-more, guards-end}
 use Rattle.constraints.specs.Resets.{length-reset, reset-same}
 use Rattle.table.specs.Steps.{guard-fair}
 use Rattle.constraints.specs.Rounds.{rounds-drop}
-use Rattle.writing.specs.Ready.{Ready}
+use Rattle.constraints.specs.Sized.{Sized}
 use Rattle.cells.specs.Writing.{Fits, Wrote, Left, fits-front, left-next, left-as}
 use Rattle.writing.specs.Passed.{startsDue, stepsDue, guardsDue, laterDue, Passed, Inside}
 use Rattle.writing.specs.Ends.{rounds-fair}
 
-module _ {t : Table} {k : ℕ} (ready : Ready t k) where
+module _ {t : Table} {k : ℕ} (ready : Sized t k) where
   module _ {v : Start} {old row : List ℤ} {q i s : ℕ} {z : List ℕ} (p : Passed t v k old row q i s z) where
     -- ---- a step begins: its order demand, its guards, and what comes after it
     module _ (l : i < k * t .steps) where
@@ -66,7 +66,7 @@ module _ {t : Table} {k : ℕ} (ready : Ready t k) where
             few = l;
             resets = p .resets;
             first = omega arith;
-            last = omega (arith, ready .sound .good .order s (p .step));
+            last = omega (arith, ready .good .order s (p .step));
             left =
                 left-as (ap (λ n. guardsDue t s i z n ++ laterDue t v k s i z) (sym e)) (left-next orders _ order-left w);
           }
@@ -74,31 +74,31 @@ module _ {t : Table} {k : ℕ} (ready : Ready t k) where
   module _ {v : Start} {old row : List ℤ} {q i s g : ℕ} {z : List ℕ} (p : Inside t v k old row q i s g z) where
     -- ---- it is at a step and at a guard of the table
     pub inside-step : s < 16
-    inside-step = omega (arith, p .step, ready .sound .good .steps-few)
+    inside-step = omega (arith, p .step, ready .good .steps-few)
 
     pub inside-moment : i < 1024
     inside-moment = omega (arith, p .few, ready .few)
 
     pub inside-guard : g < getD (t .ends) (s + 1) 0 → g < 64
-    inside-guard l = omega (arith, ready .sound .good .room (s + 1) (omega (arith, p .step)))
+    inside-guard l = omega (arith, ready .good .room (s + 1) (omega (arith, p .step)))
 
     -- ---- a guard more
     module _ (d : Guard) (l : g < getD (t .ends) (s + 1) 0) where
       pub guard-clock : getD (t .guards) g d .clock < 7
-      guard-clock = guard-fair t s g d (ready .sound .good) (p .step) (p .first) l .last
+      guard-clock = guard-fair t s g d (ready .good) (p .step) (p .first) l .last
 
       pub guard-second : getD (t .guards) g d .second < 7
-      guard-second = guard-fair t s g d (ready .sound .good) (p .step) (p .first) l .second
+      guard-second = guard-fair t s g d (ready .good) (p .step) (p .first) l .second
 
       abbrev here : List Demand
       here = demandsAt (getD (t .guards) g d) (i + 1) (λ j. getD z j 0)
 
       guard-left : Left old 0 (demandsOf t v k) row q (here ++ (guardsDue t s i z (g + 1) ++ laterDue t v k s i z))
       guard-left =
-          let room = ready .sound .good .room (s + 1) (omega (arith, p .step)) in
+          let room = ready .good .room (s + 1) (omega (arith, p .step)) in
           left-as
           (ap (λ ds. ds ++ laterDue t v k s i z)
-          (guards-more t s (i + 1) z g d l (omega (arith, room, ready .sound .good .guards-size)))
+          (guards-more t s (i + 1) z g d l (omega (arith, room, ready .good .guards-size)))
           ∙ append-assoc here (guardsDue t s i z (g + 1)) (laterDue t v k s i z))
           (p .left)
 

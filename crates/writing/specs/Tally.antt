@@ -13,7 +13,7 @@ use Rattle.constraints.specs.Demands.{demandsOf}
 use Rattle.constraints.specs.Partner.{partnersOf}
 use Rattle.constraints.specs.Count.{demands-bounded}
 use Rattle.constraints.specs.Number.{guardNumber, guardsNumber, guards-nil, guards-cons, ends-order, demands-number}
-use Rattle.writing.specs.Ready.{Ready}
+use Rattle.constraints.specs.Sized.{Sized}
 
 -- the place after the last guard, and the demands of the guards from a place on
 abbrev guardsEnd : Table → ℕ
@@ -28,13 +28,13 @@ pub record Tallied (t : Table) (n place : ℕ) : Type 0 where
   pub room : guardsEnd t ≤ 64
   pub sum : n + numberFrom t place ≡ t .steps + numberFrom t (getD (t .ends) 0 0)
 
-module _ {t : Table} {k : ℕ} (ready : Ready t k) where
+module _ {t : Table} {k : ℕ} (ready : Sized t k) where
   pub tallied-first : Tallied t (t .steps) (getD (t .ends) 0 0)
   tallied-first =
       let e : 0 + t .steps ≡ t .steps = omega arith in
       record {
-        last = rw e at (ends-order t (ready .sound .good) 0 (t .steps) (omega arith));
-        room = ready .sound .good .room (t .steps) (omega arith);
+        last = rw e at (ends-order t (ready .good) 0 (t .steps) (omega arith));
+        room = ready .good .room (t .steps) (omega arith);
         sum = refl;
       }
 
@@ -45,8 +45,8 @@ module _ {t : Table} {k : ℕ} (ready : Ready t k) where
           arith,
           p .sum,
           mul-le-mul-right (t .steps + numberFrom t (getD (t .ends) 0 0)) (ready .some),
-          demands-number t (ready .sound .good) v k,
-          demands-bounded t v k (ready .sound .good) (ready .few),
+          demands-number t (ready .good) v k,
+          demands-bounded t v k (ready .good) (ready .few),
         )
 
     pub tallied-done : (v : Start) → guardsEnd t ≤ place
@@ -56,7 +56,7 @@ module _ {t : Table} {k : ℕ} (ready : Ready t k) where
         let none : numberFrom t place ≡ 0 =
         ap (numberFrom t) e ∙ ap guardsNumber (slice-empty (guardsEnd t) (t .guards)) ∙ guards-nil in
         let all : n ≡ t .steps + numberFrom t (getD (t .ends) 0 0) = omega (arith, p .sum) in
-        ap (λ m. k * m + t .clocks * (1 + partnersOf v)) all ∙ sym (demands-number t (ready .sound .good) v k)
+        ap (λ m. k * m + t .clocks * (1 + partnersOf v)) all ∙ sym (demands-number t (ready .good) v k)
 
     -- one guard more
     pub tallied-next : (d : Guard) {m : ℕ} → place < guardsEnd t → m ≡ guardNumber (getD (t .guards) place d .relation)
@@ -65,7 +65,7 @@ module _ {t : Table} {k : ℕ} (ready : Ready t k) where
         let g = getD (t .guards) place d in
         let more : numberFrom t place ≡ m + numberFrom t (place + 1) =
         ap guardsNumber
-        (slice-cons place (guardsEnd t) (t .guards) d l (omega (arith, p .room, ready .sound .good .guards-size)))
+        (slice-cons place (guardsEnd t) (t .guards) d l (omega (arith, p .room, ready .good .guards-size)))
         ∙ guards-cons g (slice (suc place) (guardsEnd t) (t .guards))
         ∙ λ i. sym e i + numberFrom t (sym (add-one place) i) in
         record { last = omega arith; room = p .room; sum = omega (arith, p .sum) }

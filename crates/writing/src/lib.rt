@@ -8,7 +8,7 @@ ghost use lib.ListN.{length};
 ghost use Rattle.constraints.specs.Demands.{demandsOf};
 ghost use Rattle.constraints.specs.Number.{guardNumber};
 ghost use Rattle.cells.specs.Lines.{cells, over};
-ghost use Rattle.writing.specs.Ready.{Ready};
+ghost use Rattle.constraints.specs.Sized.{Sized};
 
 // The number of demands of a guard.
 fn guard_number(relation: Relation) -> usize
@@ -20,7 +20,7 @@ fn guard_number(relation: Relation) -> usize
 // The number of demands of k rounds: in each, one for each step and those of its guards; and for each clock one and its
 // partners.
 pub fn count(t: Table, start: Start, k: usize) -> usize
-    requires { ⌜ Ready t k ⌝ }
+    requires { ⌜ Sized t k ⌝ }
     ensures { λ r. ⌜ r ≡ length (demandsOf t start k) ⌝ }
 {
     let steps = t.steps;
@@ -39,7 +39,7 @@ pub fn count(t: Table, start: Start, k: usize) -> usize
 // Writes all demands of k rounds to the row: of each step the order demand and those of its guards, then those of the
 // starts. So many steps are past, and step s of the table is next, with its order demand or with the guard at place g.
 pub fn write(t: Table, start: Start, k: usize, row: &mut [i64])
-    requires { ⌜ Ready t k × (4 * length (demandsOf t start k) ≤ length (now row)) ⌝ }
+    requires { ⌜ Sized t k × (4 * length (demandsOf t start k) ≤ length (now row)) ⌝ }
     ensures { λ _. ⌜ now (row .exit) ≡ over (cells (demandsOf t start k)) (now (row .entry)) ⌝ }
 {
     let flags = t.resets;

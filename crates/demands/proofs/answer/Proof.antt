@@ -6,7 +6,7 @@ use mathlib.Core.Bool.{true}
 use native.Mathlib.Omega.{arith}
 use Rattle.asking.specs.Admission.{inRange}
 use Rattle.demands.specs.declared.Listed.the-variants.{Written}
-use Rattle.demands.specs.Answer.{answer-rounds, answer-list, answer-written, kept, in-range-ready}
+use Rattle.demands.specs.Answer.{answer-rounds, answer-list, answer-written, kept, in-range-sized}
 use Rattle.demands.proofs.answer.Statement.{statement}
 use Rattle.demands.proofs.answer.Tie as tie
 
@@ -27,7 +27,7 @@ returns c = (
 )
 
 count-requires : tie.Need-count-requires
-count-requires c κs = in-range-ready (c .before .before .pre) (within c)
+count-requires c κs = in-range-sized (c .before .before .pre) (within c)
 
 refused-requires-2 : tie.Need-refused-requires-2
 refused-requires-2 c κs = search needs
@@ -54,7 +54,7 @@ returns-3 c =
 write-requires : tie.Need-write-requires
 write-requires c κs =
     let counted = c .before .before .before in (
-      in-range-ready (counted .before .before .before .pre) (within (counted .before)),
+      in-range-sized (counted .before .before .before .pre) (within (counted .before)),
       omega (arith, c .before .before .if2 .left, counted .count .ensures),
     )
 

@@ -5,7 +5,7 @@ use Prim.Native.Nat.{min}
 use native.Mathlib.Omega.{arith}
 use Rattle.wire.specs.Records.{Bytes}
 use Rattle.demands.specs.Listed.{rowRoom}
-use Rattle.demands.specs.Accepted.{table-sound, rows-counted, rows-refused}
+use Rattle.demands.specs.Accepted.{table-tabled, rows-counted, rows-refused}
 use Rattle.demands.proofs.rows.Statement.{statement}
 use Rattle.demands.proofs.rows.Tie as tie
 
@@ -24,7 +24,7 @@ enum-told c = search needs
 answer-requires : tie.Need-answer-requires
 answer-requires c κs =
     let parsed = c .before .before .before .before in
-    table-sound _ (bytes (parsed .before)) (sym (parsed .parse .ensures .0) ∙ c .before .enum-told .given .1)
+    table-tabled _ (bytes (parsed .before)) (sym (parsed .parse .ensures .0) ∙ c .before .enum-told .given .1)
     (parsed .parse .ensures .1)
 
 returns : tie.Need-returns

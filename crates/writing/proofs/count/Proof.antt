@@ -35,7 +35,7 @@ module _ (c : tie.After-loop Inv-loop μ-loop) where
   number = tallied-done (asked .pre) (c .before .loop .inv) (asked .args .start) (omega arith)
 
   small : length (demandsOf (asked .args .t1) (asked .args .start) (asked .args .k)) ≤ 1024 * 129 + 12
-  small = demands-bounded _ (asked .args .start) _ (asked .pre .sound .good) (asked .pre .few)
+  small = demands-bounded _ (asked .args .start) _ (asked .pre .good) (asked .pre .few)
 
 -- so is their number as it is worked out
 module _ (c : tie.After-partners Inv-loop μ-loop) where

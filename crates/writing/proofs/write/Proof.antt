@@ -142,7 +142,7 @@ slice-aggregate-reset-clocks c = sym (within (c .before .before .before .before)
 reset-clocks-requires : tie.Need-reset-clocks-requires Inv-loop μ-loop
 reset-clocks-requires c κs =
     let e = c .before .before .before .before in (
-      start e .pre .0 .sound .good .resets-size,
+      start e .pre .0 .good .resets-size,
       omega (arith, inside-step (start e .pre .0) (within e)),
       within e .resets,
     )
@@ -164,7 +164,7 @@ module _ (c : tie.After-following Inv-loop μ-loop) where
   low =
       let p = passed-step (start ended .pre .0) (within ended) (ending .if2 .left)
       (c .before .before .reset-clocks .ensures) (c .following .ensures) in
-      omega (arith, p .step, start ended .pre .0 .sound .good .steps-few)
+      omega (arith, p .step, start ended .pre .0 .good .steps-few)
 
 mul-g : tie.Need-mul-g Inv-loop μ-loop
 mul-g c = record { fits = omega (arith, low c) }
@@ -193,7 +193,7 @@ put-starts-requires c κs =
     let loop = c .before .before in
     let start = loop .before .before .before .before in
     let p = as-done (loop .loop .inv) (omega arith) in
-    (start .pre .0 .sound .good .clocks-few, start .pre .0 .few, starts-fit (start .pre .0) p (omega arith))
+    (start .pre .0 .good .clocks-few, start .pre .0 .few, starts-fit (start .pre .0) p (omega arith))
 
 same-length : tie.Need-same-length Inv-loop μ-loop
 same-length c =
