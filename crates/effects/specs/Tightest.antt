@@ -1,14 +1,14 @@
 -- The tightest bounds that every run keeps between its start, the last resets before it, its last step and the last resets at its end; and
 -- that the entries of an effect are these.
 use mathlib.Core.Path.{_≡_, refl, sym, ap, _∙_}
-use mathlib.Core.Logic.{inl, inr}
+use mathlib.Core.Logic.{inl, inr, _↔_}
 use mathlib.Core.List.{List}
 use Prim.Native.Nat.{ℕ, zero, suc, _+_, _*_, _-_, _≤_, _<_}
 use native.Mathlib.Omega.{arith}
 use native.Mathlib.Decide.{decLt}
 use native.Mathlib.Nat.{mul-pos}
 use lib.ListN.{length}
-use lib.IntN.{ℤ, pos, negℤ, _+ℤ_, _-ℤ_, +ℤ-assoc, +ℤ-comm, pos-+ℤ-pos, +ℤ-negℤ-cancel}
+use lib.IntN.{ℤ, pos, negℤ, _+ℤ_, _-ℤ_, +ℤ-assoc, +ℤ-comm, +ℤ-idl, +ℤ-idr, pos-+ℤ-pos, +ℤ-negℤ-cancel}
 use Rattle.basics.specs.Choice.{choose, choose-yes, choose-no}
 use Rattle.table.specs.Step.{Step, Fairs}
 use Rattle.runs.specs.Run.{Run}
@@ -160,6 +160,23 @@ difference-same a b c d e = ap (λ k. k -ℤ pos b) (sym whole-is) ∙ +ℤ-neg�
         +ℤ-assoc (pos c) (negℤ (pos d)) (pos b) ∙ ap (λ k. pos c +ℤ k) (+ℤ-comm (negℤ (pos d)) (pos b))
         ∙ sym (+ℤ-assoc (pos c) (pos b) (negℤ (pos d)))
         ∙ ap (λ k. k -ℤ pos d) (pos-+ℤ-pos c b ∙ ap pos (sym e) ∙ sym (pos-+ℤ-pos a d)) ∙ +ℤ-negℤ-cancel (pos a) (pos d)
+
+-- What is told says what the bound demands of two moments u and v, in P parts to a tick. With h ticks told, v is at most (mark 1) or under
+-- (mark 2) h ticks after u;
+pub told-after : (P u v e z h : ℕ) → half e ≡ h + z
+    → (ticksTold (some e z) ≡ pos h) × (Sat P (some e z) u v ↔ v + markTold (some e z) ≤ u + h * P + 1)
+told-after P u v e z h q = (
+  difference-same (half e) z h 0 (omega arith) ∙ +ℤ-idr (pos h),
+  ((λ s. omega (arith, s .holds, ap (λ k. k * P) q)), λ k. record { holds = omega (arith, k, ap (λ k. k * P) q) }),
+)
+
+-- and with h ticks told below 0, v is at least, or over, h ticks before u.
+pub told-before : (P u v e z h : ℕ) → half e + h ≡ z
+    → (ticksTold (some e z) ≡ negℤ (pos h)) × (Sat P (some e z) u v ↔ v + h * P + markTold (some e z) ≤ u + 1)
+told-before P u v e z h q = (
+  difference-same (half e) z 0 h (omega arith) ∙ +ℤ-idl (negℤ (pos h)),
+  ((λ s. omega (arith, s .holds, ap (λ k. k * P) q)), λ k. record { holds = omega (arith, k, ap (λ k. k * P) q) }),
+)
 
 -- Bounds that are as tight are told alike, so that the tightest bound of two moments is told in one way.
 pub told-same : (e f : Bound) → e ⊑ f → f ⊑ e → (ticksTold e ≡ ticksTold f) × (markTold e ≡ markTold f)
