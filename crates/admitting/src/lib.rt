@@ -1,5 +1,7 @@
 // Whether an effect runs from a start that a variant allows: see crate effects. Its left part, the bounds among its first `side`
 // vertices, tells from where the steps run. With the demands of the variant put in it has a solution, or it has none.
+#![tactic(auto)]
+
 ghost use Rattle.std.specs.Prelude.{◌≡◌, true, List, ◌↔◌, ◌-◌, ◌<◌, ◌≤◌, length};
 ghost use Rattle.table.specs.Step.{Step};
 ghost use Rattle.runs.specs.Demand.{starts_of};

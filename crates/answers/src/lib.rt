@@ -1,4 +1,6 @@
 // Four numbers in a lent answer room, as terminals get every answer; and those of a refusal and of the answer to "read".
+#![tactic(auto)]
+
 ghost use Rattle.std.specs.Prelude.{◌≡◌};
 ghost use Rattle.answers.specs.Four.{refused_numbers, read_numbers};
 ghost use Rattle.answers.specs.Answered.{answered};

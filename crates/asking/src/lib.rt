@@ -1,11 +1,13 @@
 // What is refused after the table: a number of rounds, and rooms that are too short.
+#![tactic(auto)]
+
 ghost use Rattle.std.specs.Prelude.{◌≡◌, ◌+◌, ◌≤◌, leb};
 ghost use Rattle.asking.specs.Admission.{refused_for, in_range, admit_of};
 
 use table::{Fault, Refusal};
 
 // Whether a question is refused.
-#[derive(Drop)]
+#[derive(Clone, Copy)]
 pub enum Admission {
     Refused(Refusal),
     Accepted,

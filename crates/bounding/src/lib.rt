@@ -1,4 +1,6 @@
 // Checks of demands in parts as difference constraints, over lent bounds from above: of one demand, of a key, and of one side of a step.
+#![tactic(auto)]
+
 ghost use Rattle.std.specs.Prelude.{◌≡◌, [], ◌∷◌, ◌+◌, ◌*◌, ◌/◌, ◌≤◌, ◌<◌, length};
 ghost use Rattle.table.specs.Step.{up_of, down_of};
 ghost use Rattle.runs.specs.Demand.{guard_demands};

@@ -1,6 +1,8 @@
 // The card on the door, for a terminal to call from C, where a slice is a pointer and a length. An answer is four numbers: 0, how many bytes
 // were written, 0, 0; or the number of a refusal, its place, 0, 0. An answer room of fewer than four places gives false, and then no room
 // changes.
+#![tactic(auto)]
+
 ghost use Rattle.std.specs.Prelude.{◌≡◌, length};
 ghost use Rattle.answers.specs.Answered.{roomy, answered};
 ghost use Rattle.cards.specs.Convert.{table_of, card_of, to_table, to_card};

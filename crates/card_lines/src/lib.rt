@@ -1,11 +1,13 @@
 // One line of a card, recognised at a place of a text.
+#![tactic(auto)]
+
 ghost use Rattle.std.specs.Prelude.{◌≡◌, ◌≤◌, length, drop};
 ghost use Rattle.card_lines.specs.Front.{held, starts, wrong_found, digits_at, number_at, sign_at, closed_at, numbered_at, bound_at, line_at};
 
 use records::between;
 
 // A number that stands at a place: its value, held at HOLD, and the place after it. Where none stands there, `next` is the place itself.
-#[derive(Drop)]
+#[derive(Clone, Copy)]
 pub struct Numeral {
     pub value: usize,
     pub next: usize,
@@ -13,7 +15,7 @@ pub struct Numeral {
 
 // What a line says as numbers: the kind as in a table's records (1 timers, 2 bound, 3 zero, 4 step, 5 end), what stands in it, and the
 // place after its line feed. Of a wrong line all are 0.
-#[derive(Drop)]
+#[derive(Clone, Copy)]
 pub struct Found {
     pub kind: usize,
     pub first: usize,

@@ -1,4 +1,6 @@
 // Card to table: the lines of a card are taken from the top, and their records drafted, until a fault or the end.
+#![tactic(auto)]
+
 ghost use Rattle.std.specs.Prelude.{◌≡◌, ◌≤◌, ◌+◌, ◌%◌, length, set};
 ghost use Rattle.text.specs.Over.{Written};
 ghost use Rattle.cards.specs.Convert.{table_of, to_table, room_after};

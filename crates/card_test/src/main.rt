@@ -1,5 +1,7 @@
 // Converts cards to tables and tables to cards, in rooms that are too short, exact and longer, and prints each answer, what stands
 // in the room after it, and how many places at its end are kept: each holds 255 at first.
+#![tactic(auto)]
+
 ghost use Rattle.std.specs.Prelude.{◌≤◌, length};
 
 use card_reading::to_table;

@@ -1,4 +1,6 @@
 // Table to card: the card of a table, a line for each record, in a lent room.
+#![tactic(auto)]
+
 ghost use Rattle.std.specs.Prelude.{◌≡◌, ◌+◌, ◌≤◌, ◌<◌, length, get_or, drop};
 ghost use Rattle.text.specs.Over.{Written};
 ghost use Rattle.wire.specs.Records.{record_at};

@@ -1,11 +1,13 @@
 // The card on the door: what a table is as text, and the laws of both conversions: specs/. The end of both: what was drafted is handed over.
+#![tactic(auto)]
+
 ghost use Rattle.std.specs.Prelude.{◌≡◌, ◌++◌, ◌≤◌, length, take, drop};
 ghost use Rattle.cards.specs.Convert.{handed, room_after};
 
 use table::{Fault, Refusal};
 
 // The answer to a conversion: how many bytes were written, or why none were.
-#[derive(Drop)]
+#[derive(Clone, Copy)]
 pub enum Converted {
     Written(usize),
     Refused(Refusal),

@@ -1,4 +1,6 @@
 // Demands written to a row, four numbers to a demand: one, those of a guard, and those of the starts.
+#![tactic(auto)]
+
 ghost use Rattle.std.specs.Prelude.{◌≡◌, false, [], ◌∷◌, map, ◌≤◌, ◌<◌, pos};
 ghost use Rattle.std.proofs.lemmas.List.Edits.{sets};
 ghost use Rattle.table.specs.Step.{up_of, down_of};

@@ -1,4 +1,6 @@
 // Checks of demands in parts as difference constraints, over lent times: of one demand, of a key, and of one side of a step.
+#![tactic(auto)]
+
 ghost use Rattle.std.specs.Prelude.{◌≡◌, ◌||◌, [], ◌∷◌, length, ◌+◌, ◌≤◌, ◌<◌};
 ghost use Rattle.table.specs.Step.{up_of, down_of};
 ghost use Rattle.runs.specs.Demand.{guard_demands};
@@ -24,7 +26,7 @@ use sweeps::{lower_demand, upper_demand};
 use table::Guard;
 
 // What checks give: whether one has raised a time, and the stamp of the next check.
-#[derive(Drop)]
+#[derive(Clone, Copy)]
 pub struct Sweep {
     pub raised: bool,
     pub stamp: u64,

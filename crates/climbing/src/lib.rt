@@ -1,4 +1,6 @@
 // The count of rounds by doubling: effects of 1, 2, 4, .. rounds in the places of a lent row.
+#![tactic(auto)]
+
 ghost use Rattle.std.specs.Prelude.{◌≡◌, true, List, ◌↔◌, ◌+◌, ◌*◌, ◌<◌, ◌≤◌, ◌^◌, length};
 ghost use Rattle.table.specs.Step.{Step};
 ghost use Rattle.effects.specs.Starts.{starts_for};
@@ -14,7 +16,7 @@ use runs::Start;
 // Where doubling ended: the highest place and its number of rounds, twice which have no run; or place 24, where every number
 // has one. Runs are those from the starts that the variant allows. Where every number has one, the effect at the place `settled` has a
 // left part that more rounds leave as it is.
-#[derive(Drop)]
+#[derive(Clone, Copy)]
 pub struct Top {
     pub place: usize,
     pub settled: usize,

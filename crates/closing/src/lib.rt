@@ -1,4 +1,6 @@
 // Difference bound matrices, closed by Floyd and Warshall's pivots: only the vertices in use are looked at.
+#![tactic(auto)]
+
 ghost use Rattle.std.specs.Prelude.{◌≡◌, ◌<◌, ◌≤◌, ◌^◌, max};
 ghost use Rattle.zones.specs.Codes.{ZERO, Coded, sum_of};
 ghost use Rattle.zones.specs.Cells.{cell, Ranged};

@@ -1,4 +1,6 @@
 // What the difference constraints (01: demands) of k rounds of a table are made of: the last resets, and the demands of a guard.
+#![tactic(auto)]
+
 ghost use Rattle.std.specs.Prelude.{◌≡◌, false, cond, map, ◌≤◌, ◌<◌, length, get_or};
 ghost use Rattle.table.specs.Step.{up_of, down_of, end_of};
 ghost use Rattle.runs.specs.Demand.{plus, starts_of, moved};
@@ -153,7 +155,7 @@ pub fn twice(relation: Relation) -> bool
 }
 
 // The demand that a variant of the start has for a clock, besides that its last reset is not after the start (N1: its partner).
-#[derive(Drop)]
+#[derive(Clone, Copy)]
 pub enum Partner {
     One(Demand),
     None,

@@ -1,4 +1,6 @@
 // The lines of a report that stand before its plan, and how many rounds are planned.
+#![tactic(auto)]
+
 ghost use Rattle.std.specs.Prelude.{◌≡◌, ◌+◌, ◌≤◌, length};
 ghost use Rattle.text.specs.Over.{Written};
 ghost use Rattle.count_lines.specs.Lines.{counted_line, count_line, planned_of};

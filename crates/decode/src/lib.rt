@@ -1,4 +1,6 @@
 // The table by value: accepted bytes to clocks, steps, guards and resets in arrays.
+#![tactic(auto)]
+
 ghost use Rattle.std.specs.Prelude.{◌≡◌, ◌≤◌, ◌+◌, length, drop};
 ghost use Rattle.wire.specs.Records.{record_at, records};
 ghost use Rattle.wire.specs.Reading.{read_of};
@@ -64,7 +66,7 @@ pub fn fill(bytes: &[u8]) -> Table
 }
 
 // The answer to the question "read", and the table by value; of refused bytes it is the empty one.
-#[derive(Drop)]
+#[derive(Clone, Copy)]
 pub struct Parsed {
     pub answer: Read,
     pub table: Table,

@@ -1,4 +1,6 @@
 // The list entry of the question "demands for k": the demands, written to a lent row of numbers and to a lent list of records.
+#![tactic(auto)]
+
 ghost use Rattle.std.specs.Prelude.{◌≡◌, ◌+◌, ◌*◌, ◌≤◌, ◌<◌, length};
 ghost use Rattle.demands.specs.Listed.{listed_of, row_of};
 ghost use Rattle.demand_list.specs.Lines.{list_room, list_of};
@@ -9,7 +11,7 @@ use runs::Start;
 
 // A demand as a record: a bound in ticks, and strict as 0 or 1.
 #[repr(C)]
-#[derive(Drop)]
+#[derive(Clone, Copy)]
 pub struct Line {
     pub from: u64,
     pub to: u64,

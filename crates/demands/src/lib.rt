@@ -1,4 +1,6 @@
 // The question "demands for k": the difference constraints (01: demands) of k rounds of a table, written to a lent row of numbers.
+#![tactic(auto)]
+
 ghost use Rattle.std.specs.Prelude.{◌≡◌, min, length};
 ghost use Rattle.constraints.specs.Demands.{demands_of};
 ghost use Rattle.cells.specs.Lines.{cells};
@@ -9,7 +11,7 @@ use runs::Start;
 use table::{Fault, Read, Refusal, Table};
 
 // The answer: so many demands are written; or a refusal, and nothing is.
-#[derive(Drop)]
+#[derive(Clone, Copy)]
 pub enum Listed {
     Written(usize),
     Refused(Refusal),

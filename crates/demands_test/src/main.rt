@@ -1,4 +1,6 @@
 // Writes the demands of some tables, in rows that are too short, exact and longer, and prints them.
+#![tactic(auto)]
+
 use demands::Listed;
 use runs::Start;
 use testkit::{cells, field, name, refusal, table, word};

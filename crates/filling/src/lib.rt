@@ -1,4 +1,6 @@
 // What filling in a table by value starts from: the one of no record, and the relation of a code.
+#![tactic(auto)]
+
 ghost use Rattle.std.specs.Prelude.{◌≡◌};
 ghost use Rattle.records.specs.Rules.{relation_of};
 ghost use Rattle.filling.specs.Filling.{empty};

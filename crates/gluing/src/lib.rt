@@ -1,5 +1,7 @@
 // Two effects of a lent row as one matrix in a row of cells: see crate effects. An effect takes 196 codes, 14 for each of up
 // to 14 vertices, of which the first `side` are the configuration before and the next `side` the one after.
+#![tactic(auto)]
+
 ghost use Rattle.std.specs.Prelude.{◌≡◌, ◌+◌, ◌*◌, ◌<◌, ◌≤◌, length};
 ghost use Rattle.gluing.specs.Blocks.{strip_of, block_of};
 ghost use Rattle.gluing.specs.Laying.{lay_of};

@@ -1,5 +1,7 @@
 // A way home over the steps of k rounds: forth step by step, and wherever a step's guards from above raise an earlier step, back at
 // once from there and on again after it.
+#![tactic(auto)]
+
 ghost use Rattle.std.specs.Prelude.{◌≡◌, ◌+◌, ◌*◌, ◌%◌, ◌≤◌, ◌<◌, ◌^◌};
 ghost use Rattle.sweeps.specs.Order.{upper_of};
 ghost use Rattle.paths.specs.State.{state};
@@ -13,7 +15,7 @@ use last_resets::{lowest, preceding, step_of};
 use ways::CHECKS;
 
 // How far a way has come: the step to go on with, and the stamp of the next check.
-#[derive(Drop)]
+#[derive(Clone, Copy)]
 struct Way {
     next: usize,
     stamp: u64,

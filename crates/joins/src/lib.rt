@@ -1,4 +1,6 @@
 // The effects of steps one after the other, in places of a lent row: see crate effects. The row has 25 places of 196 codes.
+#![tactic(auto)]
+
 ghost use Rattle.std.specs.Prelude.{◌≡◌, ◌+◌, ◌*◌, ◌<◌, ◌≤◌, length};
 ghost use Rattle.table.specs.Step.{steps_from, steps_of, Good};
 ghost use Rattle.zones.specs.Cells.{matrix};

@@ -2,6 +2,8 @@
 // to the first places of a lent answer room; its other places keep their contents. An answer room of fewer than four places gives
 // false, and then no room changes. A refusal is 01's number, its place, 0, 0; the first number of every other answer is 0. Runs start
 // at log-in, with all readings 0; entries named mid_shift ask the same of runs that start in mid-shift, with any readings.
+#![tactic(auto)]
+
 ghost use Rattle.std.specs.Prelude.{◌≡◌};
 ghost use Rattle.wire.specs.Reading.{read_of};
 ghost use Rattle.plan.specs.Answer.{rooms};

@@ -1,4 +1,6 @@
 // The last resets of the clocks at each step of the rounds, from their distances: how many steps ago in rounds without end.
+#![tactic(auto)]
+
 ghost use Rattle.std.specs.Prelude.{◌≡◌, ◌+◌, ◌%◌, ◌≤◌, ◌<◌, length, replicate};
 ghost use Rattle.table.specs.Step.{Good};
 ghost use Rattle.table.specs.declared.Table.{Table};

@@ -1,4 +1,6 @@
 // The last moments of the steps of k rounds: bounds from above, lowered by checks of the demands until all of them hold.
+#![tactic(auto)]
+
 ghost use Rattle.std.specs.Prelude.{◌≡◌, ◌+◌, ◌-◌, ◌%◌, ◌≤◌, ◌<◌};
 ghost use Rattle.sweeps.specs.Order.{upper_at};
 ghost use Rattle.ways.specs.Forth.{Going};
@@ -17,7 +19,7 @@ use last_resets::{later, preceding, step_of};
 pub const NEVER: usize = 1031;
 
 // How far an ascent has come: whether it has lowered a bound, the step to go on with, and how many steps it may still go back.
-#[derive(Drop)]
+#[derive(Clone, Copy)]
 pub struct Way {
     pub hit: bool,
     pub next: usize,
@@ -177,7 +179,7 @@ fn rise(
 }
 
 // How far a glide has come: the moment to go on with, and how many steps it may still go.
-#[derive(Drop)]
+#[derive(Clone, Copy)]
 struct Gone {
     next: usize,
     left: usize,

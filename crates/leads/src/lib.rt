@@ -1,5 +1,7 @@
 // The leads of a table, which are its guards with a second clock, as numbers in a row, with their constants in parts: for the passes
 // that check them.
+#![tactic(auto)]
+
 ghost use Rattle.std.specs.Prelude.{◌≡◌, cond, ◌≤◌, ◌<◌, ltb, length, get_or, replicate};
 ghost use Rattle.table.specs.Step.{Good};
 ghost use Rattle.scaling.specs.Scaled.{most};

@@ -1,5 +1,7 @@
 // A way out over the steps of k rounds: once forth, then back step by step, and wherever a step's guards from above raise an earlier step, forth at once
 // from there, and back again from the last step raised.
+#![tactic(auto)]
+
 ghost use Rattle.std.specs.Prelude.{◌≡◌, ◌+◌, ◌*◌, ◌%◌, ◌≤◌, ◌<◌, ◌^◌};
 ghost use Rattle.sweeps.specs.Order.{forth_of};
 ghost use Rattle.paths.specs.State.{state};
@@ -13,7 +15,7 @@ use last_resets::{later, lowest};
 use ways::CHECKS;
 
 // How far a way has come: the moment to go on with, and the stamp of the next check.
-#[derive(Drop)]
+#[derive(Clone, Copy)]
 struct Way {
     next: usize,
     stamp: u64,

@@ -1,5 +1,7 @@
 // The last moments of the steps of k rounds with guards between two clocks: bounds from above, lowered by checks of the demands until all
 // of them hold.
+#![tactic(auto)]
+
 ghost use Rattle.std.specs.Prelude.{◌≡◌, ◌+◌, ◌%◌, ◌<◌};
 ghost use Rattle.leads.specs.Leads.{led_by, Leading};
 ghost use Rattle.sweeps.specs.Order.{back_at};

@@ -1,5 +1,7 @@
 // The checks of tables that have guards between two clocks: back over all steps with these, and a way home forth over all steps, which
 // returns wherever a step raises an earlier one.
+#![tactic(auto)]
+
 ghost use Rattle.std.specs.Prelude.{◌≡◌, ◌+◌, ◌%◌, ◌≤◌, ◌<◌, ◌^◌};
 ghost use Rattle.leads.specs.Leads.{led_by, Leading};
 ghost use Rattle.sweeps.specs.Order.{back_of};
@@ -53,7 +55,7 @@ pub fn back_led(
 }
 
 // How far a way has come: the step to go on with, and the stamp of the next check.
-#[derive(Drop)]
+#[derive(Clone, Copy)]
 struct Way {
     next: usize,
     stamp: u64,

@@ -1,4 +1,6 @@
 // The running record that a terminal holds, lent and updated at each scan: taken apart, scanned by value, and put back.
+#![tactic(auto)]
+
 ghost use Rattle.std.specs.Prelude.{◌≡◌};
 ghost use Rattle.scans.specs.Answer.{scan_of};
 

@@ -1,4 +1,6 @@
 // The running record that a terminal holds, lent and updated by a tray of scans: taken apart, given by value, and put back.
+#![tactic(auto)]
+
 ghost use Rattle.std.specs.Prelude.{◌≡◌, length};
 ghost use Rattle.trays.specs.Answer.{outcome_of, running_of, verdicts_of};
 

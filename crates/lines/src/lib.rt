@@ -1,4 +1,6 @@
 // Lines of words and numbers into a lent buffer. Each function gives the place after the line.
+#![tactic(auto)]
+
 ghost use Rattle.std.specs.Prelude.{◌+◌, ◌≤◌, length};
 ghost use Rattle.text.specs.Over.{Written};
 ghost use Rattle.lines.specs.Line.{line1, line2, line3};

@@ -1,4 +1,6 @@
 // Writes the demands of a table to lists of records that are too short, exact and longer, and prints them.
+#![tactic(auto)]
+
 ghost use Rattle.std.specs.Prelude.{◌≡◌, ◌++◌, ◌≤◌, take, drop};
 ghost use Rattle.demands.specs.Listed.{listed_of, row_of};
 ghost use Rattle.demand_list.specs.Lines.{list_room, list_of};
@@ -9,7 +11,7 @@ use runs::Start;
 use testkit::{cells, field, number, refusal, signed, table, title, word};
 
 // What the list entry answers, and the records as they then are.
-#[derive(Drop)]
+#[derive(Clone, Copy)]
 struct Done {
     listed: Listed,
     lines: [Line; 13],

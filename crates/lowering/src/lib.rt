@@ -1,4 +1,6 @@
 // Checks of difference constraints over lent bounds from above: each lowers a bound to what the constraint allows.
+#![tactic(auto)]
+
 ghost use Rattle.std.specs.Prelude.{◌≡◌, min};
 ghost use Rattle.paths.specs.Constraint.{constraint};
 ghost use Rattle.lowering.specs.Lowered.{bounds, lower_of};

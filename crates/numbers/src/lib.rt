@@ -1,4 +1,6 @@
 // The four numbers of the answers to "rounds", "plan" and "demands": 01's number of a refusal, its place, 0, 0; or 0 and the values.
+#![tactic(auto)]
+
 ghost use Rattle.std.specs.Prelude.{◌≡◌};
 ghost use Rattle.numbers.specs.Numbers.{count_numbers, plan_numbers, demands_numbers};
 

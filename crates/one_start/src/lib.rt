@@ -1,4 +1,6 @@
 // The question "one start for every length": the smallest starting readings from which every number of rounds runs, in mid-shift.
+#![tactic(auto)]
+
 ghost use Rattle.std.specs.Prelude.{◌≡◌, ◌+◌, ◌≤◌, length};
 ghost use Rattle.table.specs.Step.{steps_of, Good};
 ghost use Rattle.joins.specs.Round.{UsesAll};
@@ -12,7 +14,7 @@ use smallest::smallest;
 use table::{Fault, Read, Refusal, Table};
 
 // The answer: the count of rounds where it is finite; or, where it is without end, the parts to a tick of the readings; or a refusal.
-#[derive(Drop)]
+#[derive(Clone, Copy)]
 pub enum Lasting {
     Finite(u64),
     Parts(u64),

@@ -1,5 +1,7 @@
 // The wall panel, for a terminal to call from C, where a slice is a pointer and a length. Runs start at log-in. A refusal is 01's
 // number and its place.
+#![tactic(auto)]
+
 ghost use Rattle.std.specs.Prelude.{◌≡◌};
 ghost use Rattle.windows.specs.Answer.{rooms};
 ghost use Rattle.widest.specs.declared.Answer.TheVariants.{Told, Refused};
@@ -18,7 +20,7 @@ const PLACES: usize = 4;
 
 // The answer to "widest": the number and the place of a refusal, or 0; a mark, 2 where a window is closed, else 0; and the two times.
 #[repr(C)]
-#[derive(Drop)]
+#[derive(Clone, Copy)]
 pub struct WidestAnswer {
     pub number: u64,
     pub place: u64,

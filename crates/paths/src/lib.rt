@@ -1,4 +1,6 @@
 // Checks of difference constraints over lent times, and the search for cycles of parents.
+#![tactic(auto)]
+
 ghost use Rattle.std.specs.Prelude.{◌≡◌, ◌<◌, ◌≤◌, length};
 ghost use Rattle.basics.specs.Places.{filled};
 ghost use Rattle.paths.specs.Constraint.{constraint};

@@ -1,4 +1,6 @@
 // The question "plan for k": the earliest moments and the smallest starts of k rounds, or a negative cycle (01: loop).
+#![tactic(auto)]
+
 ghost use Rattle.std.specs.Prelude.{◌≡◌, ◌*◌};
 ghost use Rattle.runs.specs.Demand.{starts_of};
 ghost use Rattle.constraints.specs.Sized.{Sized, Tabled, rounds_of};
@@ -18,7 +20,7 @@ use spaces::solve_here;
 use table::{Read, Refusal, Table};
 
 // The answer to the question "plan for k": the parts to a tick; or the length of a loop; or why it is refused.
-#[derive(Drop)]
+#[derive(Clone, Copy)]
 pub enum Outcome {
     Found(u64),
     Loop(usize),

@@ -1,4 +1,6 @@
 // A plan's lines into a lent buffer: the parts to a tick, the clocks' starts and the steps' moments.
+#![tactic(auto)]
+
 ghost use Rattle.std.specs.Prelude.{◌+◌, ◌*◌, ◌≤◌, length};
 ghost use Rattle.text.specs.Over.{Written};
 ghost use Rattle.plan_lines.specs.PlanLines.{number_in, start_line, step_line, start_lines, step_lines, plan_lines};

@@ -1,4 +1,6 @@
 // The plan of one or two rounds of an accepted table by log-in: the question is asked, and the answer written as lines.
+#![tactic(auto)]
+
 ghost use Rattle.std.specs.Prelude.{◌+◌, ◌≤◌, length};
 ghost use Rattle.plan_report.specs.Accepted.{Plannable};
 ghost use Rattle.plan_report.specs.Found.{WritesPlan};

@@ -1,5 +1,7 @@
 // Plans rounds of tables in both variants of the start, in rooms that are too short, exact and longer, and prints the answer and all
 // rooms.
+#![tactic(auto)]
+
 ghost use Rattle.std.specs.Prelude.{◌≤◌};
 
 use plan::Outcome;

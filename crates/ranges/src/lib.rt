@@ -1,4 +1,6 @@
 // The whole readings that each guard of a table allows, as ranges: from the least to one past the greatest.
+#![tactic(auto)]
+
 ghost use Rattle.std.specs.Prelude.{◌≡◌, ◌&&◌, ◌-◌, ltb, leb};
 ghost use Rattle.ranges.specs.Allowed.{least_of, past_of, ranges_of, Asked, inside, first_outside};
 
@@ -35,7 +37,7 @@ fn past(g: Guard) -> usize
 }
 
 // All guards of a table, in table order: the clock of each, the least reading that it allows, and one past the greatest.
-#[derive(Drop)]
+#[derive(Clone, Copy)]
 pub struct Ranges {
     pub clocks: [usize; 64],
     pub leasts: [usize; 64],

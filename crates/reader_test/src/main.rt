@@ -1,4 +1,6 @@
 // Runs the reader on small, long and faulty tables, and prints each answer.
+#![tactic(auto)]
+
 use table::Read;
 use testkit::{field, fill, name, refusal, table, title, word};
 

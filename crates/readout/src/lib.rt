@@ -1,4 +1,6 @@
 // What a solution of the constraints of k rounds says: the moments, and the smallest starts for them.
+#![tactic(auto)]
+
 ghost use Rattle.std.specs.Prelude.{◌≡◌, ℕ, ◌+◌, ◌-◌, ◌≤◌, ◌<◌, length};
 ghost use Rattle.basics.specs.Places.{at, written};
 ghost use Rattle.readout.specs.Late.{Began, Rowed, Told};

@@ -1,4 +1,6 @@
 // The tests of one record, whose fields are numbers, after the records before it.
+#![tactic(auto)]
+
 ghost use Rattle.std.specs.Prelude.{◌≡◌, ◌≤◌};
 ghost use Rattle.records.specs.Rules.{body_size, within, is_free, marked, headed, guarded, cleared, finished, ended};
 
@@ -6,7 +8,7 @@ use table::{Fault, Refusal};
 
 // What the tests of a record ask of the records before it: the clocks, the finished steps and all guards; and what the step under
 // way has so far, as binary digits: digit 0 for a guard, digit j for a reset of clock j.
-#[derive(Drop)]
+#[derive(Clone, Copy)]
 pub struct Tally {
     pub clocks: usize,
     pub steps: usize,
@@ -15,7 +17,7 @@ pub struct Tally {
 }
 
 // What is found of a record: a fault; the tally after it; or that it is the end.
-#[derive(Drop)]
+#[derive(Clone, Copy)]
 pub enum Verdict {
     Refused(Refusal),
     Next(Tally),

@@ -1,5 +1,7 @@
 // The difference constraints of k rounds, checked pass after pass over lent times, with ways home and out between the passes where a few
 // are not enough.
+#![tactic(auto)]
+
 ghost use Rattle.std.specs.Prelude.{◌+◌, ◌≤◌, ◌^◌};
 ghost use Rattle.leads.specs.Leads.{led_by, Leading};
 ghost use Rattle.sweeps.specs.Order.{back_of};

@@ -1,4 +1,6 @@
 // The report on a table, as text: its counts and its plan are by log-in. Each part is written from a place on, and gives the place after it.
+#![tactic(auto)]
+
 ghost use Rattle.std.specs.Prelude.{◌≡◌, ◌≤◌, length};
 ghost use Rattle.table.specs.declared.Read.TheVariants as read;
 ghost use Rattle.wire.specs.Reading.{read_of};

@@ -1,5 +1,7 @@
 // The report program: a table on standard input, its report on standard output. One byte over the longest table is read,
 // so that a longer one is seen to be.
+#![tactic(auto)]
+
 use libc::{STDIN_FILENO, STDOUT_FILENO};
 
 fn main() {

@@ -1,4 +1,6 @@
 // The question "rounds": how many rounds of a table have a run from a start that the variant allows.
+#![tactic(auto)]
+
 ghost use Rattle.std.specs.Prelude.{◌≡◌, ◌+◌, length};
 ghost use Rattle.table.specs.Step.{steps_of, Good};
 ghost use Rattle.runs.specs.Demand.{starts_of};
@@ -18,7 +20,7 @@ use runs::Start;
 use table::{Read, Refusal, Table};
 
 // The answer: the greatest number of rounds that has a run, that every number has one, or a refusal.
-#[derive(Drop)]
+#[derive(Clone, Copy)]
 pub enum Count {
     Finite(u64),
     Endless,
@@ -46,7 +48,7 @@ fn first_round(
 }
 
 // What the search finds: that every number of rounds runs, and a place of the row with an effect whose left part is settled; or the count.
-#[derive(Drop)]
+#[derive(Clone, Copy)]
 pub struct Found {
     pub endless: bool,
     pub place: usize,

@@ -1,4 +1,6 @@
 // Counts the rounds of tables for each variant of the start, and prints each answer.
+#![tactic(auto)]
+
 use rounds::Count;
 use runs::Start;
 use testkit::{field, name, refusal, table, title, word};

@@ -1,4 +1,6 @@
 // The running record as terminals hold it, a row of eight numbers: the next step, the readings of clocks 1 to 6, and the last counter.
+#![tactic(auto)]
+
 ghost use Rattle.std.specs.Prelude.{◌≡◌, ◌≤◌, length};
 ghost use Rattle.rows.specs.Row.{record_in, with_record};
 

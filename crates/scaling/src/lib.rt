@@ -1,4 +1,6 @@
 // The constants of a table's guards (01: bounds) in parts of a tick. Each is scaled once, and all copies of its guard in k rounds use that number.
+#![tactic(auto)]
+
 ghost use Rattle.std.specs.Prelude.{◌≡◌, ◌*◌, ◌≤◌, replicate};
 ghost use Rattle.table.specs.Step.{Good};
 ghost use Rattle.scaling.specs.Scaled.{scaled_of};

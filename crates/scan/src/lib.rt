@@ -1,6 +1,8 @@
 // Log-in and scans, for a terminal to call from C, where a slice is a pointer and a length. The running record is a row of eight numbers:
 // the next step, the readings of clocks 1 to 6, and the last counter. An answer is four numbers, as for the questions of `judge`. A row of
 // fewer than eight places, or an answer room of fewer than four, gives false, and then no room changes.
+#![tactic(auto)]
+
 ghost use Rattle.std.specs.Prelude.{◌≡◌};
 ghost use Rattle.scans.specs.Scan.{log_in};
 ghost use Rattle.rows.specs.Row.{holds_record, with_record};

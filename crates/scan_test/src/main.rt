@@ -1,4 +1,6 @@
 // Gives scans to tables, one after the other, and prints the verdicts and the record after them.
+#![tactic(auto)]
+
 use scanning::scan;
 use scans::{Running, Verdict, log_in};
 use testkit::{column, field, fill, name, readings_in, refusal, table, title, word};

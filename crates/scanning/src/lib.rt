@@ -1,4 +1,6 @@
 // A scan, judged by a table's bytes: while they are read, the guards of the record's step are tested.
+#![tactic(auto)]
+
 ghost use Rattle.std.specs.Prelude.{◌≡◌, true, cond, ◌≤◌, ◌<◌, ◌+◌, ◌-◌, length, drop};
 ghost use Rattle.ticks.specs.Ticks.{later_of};
 ghost use Rattle.records.specs.Rules.{relation_of, is_free};
@@ -46,7 +48,7 @@ fn holds_at(bytes: &[u8], at: usize, readings: &[u16; 6], ticks: u16) -> bool
 // What has been found of a step, while the table is read: whether the step is under way; the guards before it; the number of its first
 // guard that failed, counted from the table's first, or 0; and, once it is finished, the clocks that it resets, as binary digits: digit j
 // for clock j.
-#[derive(Drop)]
+#[derive(Clone, Copy)]
 struct Progress {
     on: bool,
     first: usize,
@@ -139,7 +141,7 @@ fn note(
 }
 
 // The answer to the question "read", and what has been found of a step.
-#[derive(Drop)]
+#[derive(Clone, Copy)]
 struct Watched {
     answer: Read,
     progress: Progress,

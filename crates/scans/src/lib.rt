@@ -1,5 +1,7 @@
 // The running record that a terminal holds for a table, and what log-in and a scan make of it: definitions, in specs/; log-in, and whether a
 // table can go on from a record.
+#![tactic(auto)]
+
 ghost use Rattle.std.specs.Prelude.{◌≡◌, ◌≤◌};
 ghost use Rattle.scans.specs.Scan.{log_in, following, held_all, fits};
 
@@ -8,7 +10,7 @@ use table::Refusal;
 
 // A running record: the next step, from 1; the reading of each clock in whole ticks, held at 4,001 once there; and the rail's counter
 // at the last scan that was accepted, or at log-in. Readings of clocks that the table does not have mean nothing.
-#[derive(Drop)]
+#[derive(Clone, Copy)]
 pub struct Running {
     pub step: u16,
     pub readings: [u16; 6],
@@ -17,7 +19,7 @@ pub struct Running {
 
 // What is found of a scan: it is accepted; it is turned away by a guard of the next step, by its number there, from 1; or the table or
 // the record is refused.
-#[derive(Drop)]
+#[derive(Clone, Copy)]
 pub enum Verdict {
     Accepted,
     TurnedAway(usize),
@@ -25,7 +27,7 @@ pub enum Verdict {
 }
 
 // The verdict, and the running record after the scan.
-#[derive(Drop)]
+#[derive(Clone, Copy)]
 pub struct Scanned {
     pub verdict: Verdict,
     pub running: Running,

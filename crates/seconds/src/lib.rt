@@ -1,4 +1,6 @@
 // A moment in seconds. Moments are whole numbers of parts of a tick, and a tick is a tenth of a second.
+#![tactic(auto)]
+
 ghost use Rattle.std.specs.Prelude.{◌≡◌, ◌*◌, ◌<◌, ◌^◌};
 ghost use Rattle.seconds.specs.Seconds.{seconds_of, Nearest};
 

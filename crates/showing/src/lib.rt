@@ -1,4 +1,6 @@
 // The windows of a row of steps: into the two rooms of a panel, and the widest of them.
+#![tactic(auto)]
+
 ghost use Rattle.std.specs.Prelude.{◌≡◌, ◌-◌, length};
 ghost use Rattle.window.specs.Window.{Small};
 ghost use Rattle.window.specs.Widest.{Chosen};
@@ -45,7 +47,7 @@ pub fn show_absent(n: usize, marks: &mut [u8], times: &mut [f64])
 }
 
 // The widest closed window so far: whether there is one, its width in parts, and its two times.
-#[derive(Drop)]
+#[derive(Clone, Copy)]
 struct Best {
     found: bool,
     width: u64,

@@ -1,4 +1,6 @@
 // Of the guards of each step, the tightest on each clock from above and the tightest from below, as rows of keys.
+#![tactic(auto)]
+
 ghost use Rattle.std.specs.Prelude.{◌≡◌, true, false, cond, eqb, replicate, ◌≤◌, ◌-◌, min};
 ghost use Rattle.table.specs.Step.{Good};
 ghost use Rattle.scaling.specs.Scaled.{most};

@@ -1,5 +1,7 @@
 // The smallest starting readings that the left part of an effect allows, in as many parts to a tick as a configuration has vertices: the
 // left part in parts, closed, tells them in its first row. See crate zones (Grid, InParts).
+#![tactic(auto)]
+
 ghost use Rattle.std.specs.Prelude.{◌≡◌, List, ℕ, ◌+◌, ◌*◌, ◌-◌, ◌/◌, ◌<◌, ◌≤◌, length, get_or};
 ghost use Rattle.table.specs.Step.{Step};
 ghost use Rattle.basics.specs.Places.{at, written};

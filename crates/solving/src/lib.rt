@@ -1,4 +1,6 @@
 // The least solution of the difference constraints of k rounds, told by rows, written out as moments and starts; or a negative cycle.
+#![tactic(auto)]
+
 ghost use Rattle.paths.specs.State.{state};
 ghost use Rattle.relaxing.specs.Rows.{rows, Sound};
 ghost use Rattle.solving.specs.Solved.{Solved};
@@ -10,7 +12,7 @@ use relaxing::passes;
 use runs::Start;
 
 // What solving has found: the least solution, or a cycle of so many moments.
-#[derive(Drop)]
+#[derive(Clone, Copy)]
 pub enum Solution {
     Least,
     Cycle(usize),

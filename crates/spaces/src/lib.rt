@@ -1,4 +1,6 @@
 // Rows solved in space of their own.
+#![tactic(auto)]
+
 ghost use Rattle.std.specs.Prelude.{◌+◌, ◌<◌};
 ghost use Rattle.relaxing.specs.Rows.{rows, Sound};
 ghost use Rattle.solving.specs.Solved.{Solved};

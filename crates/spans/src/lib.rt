@@ -1,4 +1,6 @@
 // When each step of k rounds may happen, counted in parts from log-in: its first moment, and its last one or that it has none.
+#![tactic(auto)]
+
 ghost use Rattle.std.specs.Prelude.{◌≡◌, true, ◌*◌, ◌≤◌, length};
 ghost use Rattle.runs.specs.declared.Start.TheVariants.{LogIn};
 ghost use Rattle.constraints.specs.Sized.{Sized, moments_of, parts_of};

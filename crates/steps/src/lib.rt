@@ -1,5 +1,7 @@
 // The effect of one step, as a difference bound matrix in a lent row of cells: see crate effects. A configuration has `side`
 // vertices, now and the clocks that the table has: before the step they are 0 to side - 1, after it the next.
+#![tactic(auto)]
+
 ghost use Rattle.std.specs.Prelude.{◌≡◌, [], ◌∷◌, false, cond, ◌-◌, ◌<◌, ◌≤◌, length};
 ghost use Rattle.table.specs.Step.{up_of, down_of, end_of, FairGuard, step_at, Good};
 ghost use Rattle.runs.specs.Demand.{plus, guard_demands, guards_demands};

@@ -1,5 +1,7 @@
 // A scan by bytes that may have stretches: that of the table written out. It is tried on the bytes themselves, and made on a copy only
 // where a stretch stops it.
+#![tactic(auto)]
+
 ghost use Rattle.std.specs.Prelude.{◌≡◌};
 ghost use Rattle.stretch_scan.specs.Scan.{at_stretch, scan_out};
 

@@ -1,4 +1,6 @@
 // The table by value of bytes that may have stretches: that of the table written out.
+#![tactic(auto)]
+
 ghost use Rattle.std.specs.Prelude.{◌≡◌};
 ghost use Rattle.stretches.specs.Reading.{read_out};
 ghost use Rattle.decode.specs.Fill.{table_of};

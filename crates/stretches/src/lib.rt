@@ -1,6 +1,8 @@
 // The question "read" for tables with repeated stretches: kind 7 opens one (02: repeat), kind 8 closes it (02: repeat closed). Inside a
 // stretch reading an item and reading a stretch call each other, and the bytes that are left fall: an item is a step, up to its end, or a
 // further stretch, up to its close.
+#![tactic(auto)]
+
 ghost use Rattle.std.specs.Prelude.{◌≡◌, List, ◌∷◌, ◌≤◌, ◌<◌, ◌+◌, length};
 ghost use Rattle.stretches.specs.Reading.{read_out, may_open, repeated};
 ghost use Rattle.stretches.specs.Parts.{unfinished_of, closed_of, stands_between, Reads, ItemAt, StepAt, Begins, InStretch};
@@ -12,7 +14,7 @@ use table::{Fault, Read, Refusal};
 use wire::{after_end, byte_in, judge};
 
 // A stretch that is open: how often it comes, and the steps and guards counted before it.
-#[derive(Drop)]
+#[derive(Clone, Copy)]
 struct Open {
     times: usize,
     steps: usize,
@@ -20,7 +22,7 @@ struct Open {
 }
 
 // What is found of a part, which is an item or the rest of a stretch: a fault; or the tally after it, written out, and the place after it.
-#[derive(Drop)]
+#[derive(Clone, Copy)]
 enum Part {
     Refused(Refusal),
     Read(Tally, usize),
@@ -206,7 +208,7 @@ fn outside(bytes: &[u8], at: usize, t: Tally) -> Part
 }
 
 // What records outside all stretches come to: the answer; or the place of the open or the close of a stretch, with the tally before it.
-#[derive(Drop)]
+#[derive(Clone, Copy)]
 enum Halt {
     Answer(Read),
     Stretch(Tally, usize),
@@ -248,7 +250,7 @@ fn read_records(bytes: &[u8], from: usize, tally: Tally) -> Halt
 }
 
 // The answer, and the place of the first record of a stretch; where none comes, the length of the bytes.
-#[derive(Drop)]
+#[derive(Clone, Copy)]
 pub struct Whole {
     pub answer: Read,
     pub first: usize,

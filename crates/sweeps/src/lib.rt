@@ -1,5 +1,7 @@
 // The order in which passes check the demands of k rounds, forth over those that raise a later moment and back over the others; and
 // the demand that a key stands for.
+#![tactic(auto)]
+
 ghost use Rattle.std.specs.Prelude.{◌≡◌, true, false, ◌<◌};
 ghost use Rattle.sides.specs.Sides.{none};
 ghost use Rattle.sides.specs.Tight.{key_demand};

@@ -1,9 +1,11 @@
 // A timing table as the questions use it: clocks (01: timers), and steps with guards (bounds) and resets (zeroings).
+#![tactic(auto)]
+
 ghost use Rattle.std.specs.Prelude.{◌≡◌};
 ghost use Rattle.table.specs.Refusal.{number_of};
 
 // How a guard compares a clock's reading with its constant. On the wire these are 0 to 4, in this order.
-#[derive(Drop)]
+#[derive(Clone, Copy)]
 pub enum Relation {
     Under,
     AtMost,
@@ -14,7 +16,7 @@ pub enum Relation {
 
 // A guard on a clock, which is 1 to 6; or on its reading less that of a second clock, which is 0 where there is none. The constant is
 // less than 0 where `minus` is true.
-#[derive(Drop)]
+#[derive(Clone, Copy)]
 pub struct Guard {
     pub clock: u8,
     pub second: u8,
@@ -25,7 +27,7 @@ pub struct Guard {
 
 // A table by value. Step i, from 0, has the guards from ends[i] up to ends[i + 1], in table order, and resets clock j where
 // resets[7 * i + j] is true.
-#[derive(Drop)]
+#[derive(Clone, Copy)]
 pub struct Table {
     pub clocks: usize,
     pub steps: usize,
@@ -36,7 +38,7 @@ pub struct Table {
 
 // Why a table, a number of rounds, a room, a running record, a tray of scans or a card is refused: a word for each, in the order of their
 // numbers, 1 to 21.
-#[derive(Drop)]
+#[derive(Clone, Copy)]
 pub enum Fault {
     Length,
     Cut,
@@ -63,14 +65,14 @@ pub enum Fault {
 }
 
 // A refusal: why, and the byte's place.
-#[derive(Drop)]
+#[derive(Clone, Copy)]
 pub struct Refusal {
     pub fault: Fault,
     pub place: usize,
 }
 
 // The answer to the question "read".
-#[derive(Drop)]
+#[derive(Clone, Copy)]
 pub enum Read {
     Counted {
         clocks: usize,

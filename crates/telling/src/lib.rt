@@ -1,4 +1,6 @@
 // An effect told as bounds in ticks and marks, row by row.
+#![tactic(auto)]
+
 ghost use Rattle.std.specs.Prelude.{◌≡◌, ℕ, ◌+◌, ◌*◌, ◌<◌, ◌≤◌, length, get_or};
 ghost use Rattle.zones.specs.Codes.{NONE, bound};
 ghost use Rattle.effects.specs.Tightest.{ticks_told, mark_told};

@@ -1,4 +1,6 @@
 // What the test programs share: 01's samples, tables of any length, and printing.
+#![tactic(auto)]
+
 ghost use Rattle.std.specs.Prelude.{◌≡◌, [], ◌∷◌, ◌≤◌, length, nat_abs};
 ghost use Rattle.testkit.specs.Filled.{repeated_of, byte_of, filled_of, wide_steps};
 

@@ -1,4 +1,6 @@
 // Text into a lent buffer: words and decimal numbers, as bytes. Each function gives the place after what it wrote.
+#![tactic(auto)]
+
 ghost use Rattle.std.specs.Prelude.{◌+◌, ◌≤◌, length};
 ghost use Rattle.text.specs.Over.{Written};
 ghost use Rattle.text.specs.Decimal.{digits, decimal, field};

@@ -1,4 +1,6 @@
 // Ticks that the rail's counter has gone on by, and what they make of a clock's reading.
+#![tactic(auto)]
+
 ghost use Rattle.std.specs.Prelude.{◌≡◌, ℕ, ◌+◌, ◌%◌, ◌<◌};
 ghost use Rattle.ticks.specs.Ticks.{elapsed_of, later_of};
 

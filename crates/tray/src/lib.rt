@@ -1,6 +1,8 @@
 // A tray of scans, for a terminal to call from C, where a slice is a pointer and a length. The running record is a row of eight numbers, as
 // for the scans of `scan`, and an answer is four. A row of fewer than eight places, or an answer room of fewer than four, gives false, and then
 // no room changes.
+#![tactic(auto)]
+
 ghost use Rattle.std.specs.Prelude.{◌≡◌};
 ghost use Rattle.rows.specs.Asked.{asked};
 ghost use Rattle.tray.specs.Told.{outcome_numbers, running_after, verdicts_after, answer_after};

@@ -4,6 +4,8 @@
 // number, or of `MORE_TABLES` by 100 and its number; then the record's step, its six readings and its counter, where step 99 goes on from the
 // record of the line before; how many counters the tray has, and how many places the room; and the counters, where each after the last that
 // stands there is one more. In "back to an earlier counter" 02's premise does not hold; what is found is still that of the scans given singly.
+#![tactic(auto)]
+
 ghost use Rattle.std.specs.Prelude.{◌≤◌, length};
 
 use libc::STDIN_FILENO;

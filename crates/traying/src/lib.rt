@@ -1,5 +1,7 @@
 // A tray of scans, judged by a table's bytes, which are read once: each guard is brought to the range of readings that it allows, and every scan
 // of the tray is tested by these ranges.
+#![tactic(auto)]
+
 ghost use Rattle.std.specs.Prelude.{◌≡◌, true, cond, ◌≤◌, ◌<◌, eqb, ltb, length};
 ghost use Rattle.std.proofs.lemmas.List.Edits.{sets};
 ghost use Rattle.table.specs.Refusal.{placeless};

@@ -1,5 +1,7 @@
 // The checks of a pass over the difference constraints of k rounds: those that the variant of the start has, forth those that raise a
 // later moment, back those that raise an earlier one, and those of all starts.
+#![tactic(auto)]
+
 ghost use Rattle.std.specs.Prelude.{◌≡◌, ◌≤◌, ◌%◌};
 ghost use Rattle.runs.specs.Demand.{start_demands, any_starts, starts_of};
 ghost use Rattle.constraints.specs.Partner.{partner_list};

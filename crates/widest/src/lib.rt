@@ -1,4 +1,6 @@
 // The question "widest window of k rounds": of the closed windows from log-in the widest, or that none is closed.
+#![tactic(auto)]
+
 ghost use Rattle.std.specs.Prelude.{◌*◌};
 ghost use Rattle.runs.specs.declared.Start.TheVariants.{LogIn};
 ghost use Rattle.constraints.specs.Sized.{Sized, Tabled, rounds_of};
@@ -12,7 +14,7 @@ use table::{Fault, Read, Refusal, Table};
 use window::Choice;
 
 // The answer to the question: the two times, or that no window is closed; or why it is refused.
-#[derive(Drop)]
+#[derive(Clone, Copy)]
 pub enum Answer {
     Told(Choice),
     Refused(Refusal),

@@ -1,11 +1,13 @@
 // When a step may happen, in parts of a tick and in seconds.
+#![tactic(auto)]
+
 ghost use Rattle.std.specs.Prelude.{◌≡◌, ◌+◌, ◌*◌, ◌<◌, length, set};
 ghost use Rattle.window.specs.Window.{span_of, Small, window_of, mark_of, first_of, last_of, placed};
 
 use seconds::seconds;
 
 // When a step may happen, in parts since the start: between two moments, from a first moment on, or never.
-#[derive(Drop)]
+#[derive(Clone, Copy)]
 pub enum Span {
     Closed(u64, u64),
     Open(u64),
@@ -13,7 +15,7 @@ pub enum Span {
 }
 
 // The same in seconds.
-#[derive(Drop)]
+#[derive(Clone, Copy)]
 pub enum Window {
     Closed(f64, f64),
     Open(f64),
@@ -21,14 +23,14 @@ pub enum Window {
 }
 
 // The two times of a closed window.
-#[derive(Drop)]
+#[derive(Clone, Copy)]
 pub struct Interval {
     pub first: f64,
     pub last: f64,
 }
 
 // The widest closed window of some, or that none is closed.
-#[derive(Drop)]
+#[derive(Clone, Copy)]
 pub enum Choice {
     Widest(Interval),
     NoneClosed,

@@ -1,4 +1,6 @@
 // The question "windows of k rounds": when each step may happen from log-in, in seconds, as a wall panel shows it.
+#![tactic(auto)]
+
 ghost use Rattle.std.specs.Prelude.{◌≡◌, ◌*◌, length};
 ghost use Rattle.constraints.specs.Sized.{Sized, Tabled, rounds_of};
 ghost use Rattle.runs.specs.declared.Start.TheVariants.{LogIn};
@@ -14,7 +16,7 @@ use spans::exact;
 use table::{Fault, Read, Refusal, Table};
 
 // The answer to the question: how many steps are shown; or why it is refused.
-#[derive(Drop)]
+#[derive(Clone, Copy)]
 pub enum Panel {
     Shown(usize),
     Refused(Refusal),

@@ -1,5 +1,7 @@
 // Asks for the windows of tables, in rooms that are too short, exact and longer, and for the widest of them, and prints the answers
 // and the rooms.
+#![tactic(auto)]
+
 ghost use Rattle.std.specs.Prelude.{◌≤◌};
 
 use testkit::{field, fill, name, refusal, table, word};

@@ -1,4 +1,6 @@
 // The question "read": what bytes count, or the first fault.
+#![tactic(auto)]
+
 ghost use Rattle.std.specs.Prelude.{◌≡◌, ◌≤◌, ◌<◌, ◌+◌, eqb, leb, length, get_or, take, drop};
 ghost use Rattle.records.specs.Rules.{body_size, agree};
 ghost use Rattle.wire.specs.Records.{record_at, records_at};

@@ -1,4 +1,6 @@
 // A table with stretches, written out to a lent room: the bytes of the table without stretches that it means.
+#![tactic(auto)]
+
 ghost use Rattle.std.specs.Prelude.{◌+◌, ◌-◌, ◌*◌, ◌≤◌, length};
 ghost use Rattle.text.specs.Over.{Written};
 ghost use Rattle.write_out.specs.Copies.{Repeats};
@@ -14,7 +16,7 @@ use text::put_word;
 use wire::byte_in;
 
 // The place after what was read, and the place after what was written.
-#[derive(Drop)]
+#[derive(Clone, Copy)]
 struct Places {
     at: usize,
     end: usize,

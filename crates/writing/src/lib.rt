@@ -1,4 +1,6 @@
 // The demands of k rounds of a table by value: how many they are, and all of them written to a row.
+#![tactic(auto)]
+
 ghost use Rattle.std.specs.Prelude.{◌≡◌, ◌*◌, ◌≤◌, length};
 ghost use Rattle.constraints.specs.Demands.{demands_of};
 ghost use Rattle.constraints.specs.Number.{guard_number};

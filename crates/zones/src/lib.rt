@@ -1,4 +1,6 @@
 // Difference bound matrices in a lent row of 441 cells, 21 for each of up to 21 vertices: codes of bounds, and bounds put in.
+#![tactic(auto)]
+
 ghost use Rattle.std.specs.Prelude.{◌≡◌, ◌+◌, ◌*◌, ◌<◌, ◌≤◌, min, length};
 ghost use Rattle.zones.specs.Cells.{Clear, Diagonal, tighten_of};
 ghost use Rattle.zones.specs.Lines.{LineTo};
