@@ -1,6 +1,6 @@
 -- The matrix of a list of difference constraints (01: demands): its solutions are the rows of values that satisfy them.
 use Rattle.std.specs.Prelude.{◌≡◌, refl, ◌↔◌, Bool, true, false, List, [], ◌∷◌, ◌++◌, ℕ, zero, suc, ◌+◌, ◌*◌, ◌≤◌, ◌<◌}
-use Rattle.std.proofs.Math.Logic.{Iff·symm}
+use Rattle.std.proofs.Math.Logic.Iff.{symm as iff_symm}
 use Rattle.std.proofs.Common.{arith}
 use Rattle.std.proofs.Math.Decide.{ℕ_discrete}
 use Rattle.runs.specs.declared.Demand.{Demand}
@@ -45,8 +45,8 @@ holds_sat P x d = ((λ h. (go d.strict).0 h.holds), λ s. record { holds = (go d
     go : (b : Bool)
         → Within b (x d.to + d.down * P) (x d.from + d.up * P)
         ↔ Sat P (ticks b d.up d.down) (x d.from) (x d.to)
-    go true = Iff·symm (sat_less_than P d.up d.down (x d.from) (x d.to))
-    go false = Iff·symm (sat_at_most P d.up d.down (x d.from) (x d.to))
+    go true = iff_symm (sat_less_than P d.up d.down (x d.from) (x d.to))
+    go false = iff_symm (sat_at_most P d.up d.down (x d.from) (x d.to))
 
 pub matrix_flat : (N : ℕ) (ds : List Demand) → Flat N (matrix_of ds)
 unfolding matrix_of

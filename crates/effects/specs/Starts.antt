@@ -1,6 +1,6 @@
 -- The allowed starts as a matrix: a run exists exactly where one begins at a start that the matrix allows.
 use Rattle.std.specs.Prelude.{◌↔◌, List, [], ℕ, zero, suc, ◌-◌, ◌≤◌, ◌<◌, length}
-use Rattle.std.proofs.Math.Logic.{Iff·trans}
+use Rattle.std.proofs.Math.Logic.Iff.{trans as iff_trans}
 use Rattle.std.proofs.Common.{arith}
 use Rattle.table.specs.Step.{Step, Fairs}
 use Rattle.runs.specs.Run.{copies}
@@ -40,7 +40,7 @@ module _ (n : ℕ) (D : Starts) (b : n < 7) (places : Places n D) where
           (λ j p l d m. let h = places j p l d m in (omega (arith, h.0), omega (arith, h.1)))
 
   pub permits : Permits n D (start_matrix n D)
-  permits = record { is = λ P u p old. Iff·trans (start_is P u p) (every_each (Holds P u) D n) }
+  permits = record { is = λ P u p old. iff_trans (start_is P u p) (every_each (Holds P u) D n) }
 
 module _ (n : ℕ) (D : Starts) (M : Matrix) (b : n < 7) (places : Places n D) (permits : Permits n D M) where
   -- Where a run exists, one begins at a configuration that M allows,

@@ -1,7 +1,7 @@
 -- The difference constraints of a step, between the configuration before it, vertices 0 to w - 1, and the one after it,
 -- vertices w to 2 * w - 1: the clocks 1 to w - 1 are looked at.
 use Rattle.std.specs.Prelude.{◌≡◌, refl, ◌↔◌, Bool, true, false}
-use Rattle.std.proofs.Math.Logic.{Iff·trans}
+use Rattle.std.proofs.Math.Logic.Iff.{trans as iff_trans}
 use mathlib.Core.List.{List, [], ◌∷◌, ◌++◌, Memᴰ}
 use Prim.Native.Nat.{ℕ, zero, suc, ◌+◌, ◌*◌, ◌-◌, ◌≤◌, ◌<◌}
 use native.Mathlib.Omega.{arith}
@@ -200,7 +200,7 @@ moves_is P x s = (there, back)
 
 -- The matrix of these constraints has the solutions of the step.
 pub raw_is : (s : Step) → Fair s → (P : ℕ) (x : ℕ → ℕ) → 0 < P → Solves 14 P (matrix_of (step_demands 7 s)) x ↔ Moves s P x
-raw_is s f P x p = Iff·trans (matrix_is 14 P x p (step_demands 7 s) inside) (Iff·trans (step_is P x 7 s) (moves_is P x s))
+raw_is s f P x p = iff_trans (matrix_is 14 P x p (step_demands 7 s) inside) (iff_trans (step_is P x 7 s) (moves_is P x s))
   where
     inside : Every (λ d. (d.from < 14) × (d.to < 14)) (step_demands 7 s)
     inside d i = let h = step_short 7 (omega arith) s f (λ g m. ((f.guards g m).last, (f.guards g m).second)) d i in (h.from, h.to)

@@ -1,7 +1,7 @@
 -- The third promise holds.
 use Rattle.std.specs.Prelude.{◌≡◌, refl, ◌↔◌, ◌⊎◌, List, ℕ, ◌+◌, ◌*◌, ◌^◌, ◌<◌, get_or}
 use Rattle.std.proofs.Common.{sym, subst, inl, inr, arith}
-use Rattle.std.proofs.Math.Logic.{Iff·trans}
+use Rattle.std.proofs.Math.Logic.Iff.{trans as iff_trans}
 use Rattle.runs.specs.declared.Start.{Start}
 use Rattle.runs.specs.Demand.{starts_of, Allowed}
 use Rattle.asking.specs.Rounds.{clocks_of, cycle_of, RunExists}
@@ -29,7 +29,7 @@ module _ (bytes : List ℕ) (n L g : ℕ) (t : IsTable bytes n L g) (v : Start) 
   greatest =
       record {
         exists = λ k.
-            subst (λ l. RunExists bytes v k ↔ AllowsRounds l k) (sym s.numbers) (Iff·trans (counts.runs k) (count_allows s.count k));
+            subst (λ l. RunExists bytes v k ↔ AllowsRounds l k) (sym s.numbers) (iff_trans (counts.runs k) (count_allows s.count k));
         small = subst (λ l. get_or l 2 0 < 2 ^ 32) (sym s.numbers) (count_small n s.count counts.small);
       }
 

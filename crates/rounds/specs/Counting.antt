@@ -1,7 +1,7 @@
 -- From what the search finds to the answer.
 use Rattle.std.specs.Prelude.{◌≡◌, Bool, true, false, ◌↔◌, List, [], ℕ, ◌+◌, ◌-◌, ◌<◌}
 use Rattle.std.proofs.Common.{sym, arith}
-use Rattle.std.proofs.Math.Logic.{Iff·trans}
+use Rattle.std.proofs.Math.Logic.Iff.{trans as iff_trans}
 use Rattle.table.specs.declared.Table.{Table}
 use Rattle.table.specs.Step.{Step, Fair, steps_of, Good}
 use Rattle.runs.specs.declared.Start.{Start}
@@ -59,7 +59,7 @@ module _ (table : Table) (good : Good table) (v : Start) where
   -- What is known at the end is the count.
   known_counts : (c : ℕ) → Known M τ 0 c → c < limit → Counts n D τ (Finite c)
   known_counts c k l = record {
-    runs = λ m. Iff·trans (exists_is m) (known_count M τ c k m);
+    runs = λ m. iff_trans (exists_is m) (known_count M τ c k m);
     small = λ d e. let q : d ≡ c = cc in omega arith;
   }
 

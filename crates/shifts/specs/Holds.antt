@@ -2,7 +2,7 @@
 use Rattle.std.specs.Prelude.{◌≡◌, refl, ◌↔◌, List, ℕ, zero, suc, ◌*◌, ◌<◌, length}
 use Rattle.std.proofs.Common.{ap, sym, ◌∙◌, arith}
 use Rattle.std.proofs.Math.Path.{subst}
-use Rattle.std.proofs.Math.Logic.{Iff·trans}
+use Rattle.std.proofs.Math.Logic.Iff.{trans as iff_trans}
 use Rattle.std.proofs.lemmas.Bool.{false≢true}
 use Rattle.std.proofs.lemmas.List.{length-map}
 use Rattle.table.specs.Step.{Step}
@@ -74,7 +74,7 @@ module _ (σ : List Step) (n first : ℕ) (w : Limits σ n) (s : Shift) (k : Kep
   found_accepted : (t : ℕ) → Near s.times t → ((found t).verdict ≡ Accepted) ↔ Every (HoldsAt σ s.times t) guards
   unfolding scanned
   found_accepted t near =
-      Iff·trans
+      iff_trans
       (decided_accepted σ s (counter_at first t) (readings t) (first_failing 0 guards (readings t)))
       (none_failing (HoldsAt σ s.times t) (readings t) 0 guards (kept_tells σ n first w s k t near))
 
@@ -83,7 +83,7 @@ module _ (σ : List Step) (n first : ℕ) (w : Limits σ n) (s : Shift) (k : Kep
   unfolding scanned
   found_turned t near b =
       let tells = kept_tells σ n first w s k t near in
-      Iff·trans
+      iff_trans
       (decided_turned σ s (counter_at first t) (readings t) (first_failing 0 guards (readings t)) b) (
         (λ f. failing_first (HoldsAt σ s.times t) (readings t) 0 guards tells b f.0 f.1),
         first_failing_lem (HoldsAt σ s.times t) (readings t) tells,

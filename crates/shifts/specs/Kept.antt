@@ -2,7 +2,7 @@
 use Rattle.std.specs.Prelude.{◌≡◌, ◌↔◌, true, length, get_or}
 use Rattle.std.proofs.Math.Path.{refl}
 use Rattle.std.proofs.Common.{ap, ap₂, subst₂, sym, ◌∙◌, arith, mod-lt, mod-eq_of_lt, length-append, eq-eqb, ne_eqb}
-use Rattle.std.proofs.Math.Logic.{Iff·trans, Iff·symm}
+use Rattle.std.proofs.Math.Logic.Iff.{trans as iff_trans, symm as iff_symm}
 use mathlib.Core.List.{List, [], ◌∷◌, ◌++◌, Memᴰ}
 use Prim.Native.Nat.{ℕ, zero, suc, ◌+◌, ◌*◌, ◌-◌, ◌%◌, ◌≤◌, ◌<◌}
 use Rattle.std.proofs.Math.Decide.{ℕ_discrete}
@@ -132,12 +132,12 @@ module _ (σ : List Step) (n first : ℕ) (w : Limits σ n) where
       -- so they tell of each guard whether it holds
       pub kept_tells : Tells (HoldsAt σ s.times t) readings due_step.guards
       kept_tells g m =
-          Iff·trans
+          iff_trans
           (subst₂ (λ x y. (compares g.relation g.constant x ≡ true) ↔ Compares g.relation (g.constant * 1) y)
           (sym (readings_held (g.clock - 1) (omega (arith, on.0, on.1)) ∙ ap (λ j. held (since σ s.times j t)) (omega (arith, on.0))))
           (sym (true_reading g.clock))
           (compares_held g.relation g.constant (since σ s.times g.clock t) ((w.fair due_step due_member).guards g m).small))
-          (Iff·symm (passes_plain 1 _ no_reading (last_reset σ s.times) (suc (length s.times)) g (w.plain due_step due_member g m)))
+          (iff_symm (passes_plain 1 _ no_reading (last_reset σ s.times) (suc (length s.times)) g (w.plain due_step due_member g m)))
         where
           on : OnClocks n g
           on = w.clocks due_step due_member g m

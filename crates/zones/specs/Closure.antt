@@ -1,7 +1,7 @@
 -- The closure of a matrix, told by its solutions: every matrix has one, or has no solution.
 use Rattle.std.specs.Prelude.{◌⊎◌, ◌↔◌, ℕ, zero, suc, ◌≤◌, ◌<◌}
 use Rattle.std.proofs.Common.{inl, inr, ⊎_elim, arith}
-use Rattle.std.proofs.Math.Logic.{Iff·trans}
+use Rattle.std.proofs.Math.Logic.Iff.{trans as iff_trans}
 use Rattle.basics.specs.Choice.{not_below_zero}
 use Rattle.zones.specs.Bound.{◌⊑◌, weak_zero, dec⊑, ⊑_trans}
 use Rattle.zones.specs.Matrix.{Matrix, Solves, Solution, OthersSettled, Closed, Flat, pivot, pivot_is}
@@ -39,7 +39,7 @@ pub canonical_for : {N : ℕ} {C : Matrix} {S : ℕ → (ℕ → ℕ) → Type 0
 canonical_for T c e = record {
   closed = c.closed;
   flat = c.flat;
-  is = λ P x p. Iff·trans (c.is P x p) (e P x p);
+  is = λ P x p. iff_trans (c.is P x p) (e P x p);
 }
 
 -- Pivots in turn make a closure where the other vertices are settled.

@@ -66,14 +66,14 @@ module _ (N p : ℕ) (M L : Matrix) (hp : p < N) (zp : weak_zero ⊑ M p p) (v :
     }
 
 -- Pivots in turn keep what is settled,
-pub pivots_keep_settled : {N from k : ℕ} {M L : Matrix} → Pivots N from M k L
+pub pivots_keep_settled : {N from : ℕ} {M : Matrix} {k : ℕ} {L : Matrix} → Pivots N from M k L
     → (c : ℕ) → c < N → Settled N M c → Settled N L c
 pivots_keep_settled (start f) c hc s = s
 pivots_keep_settled {N} (next {k} {K} {L} r f h z v) c hc s =
     pivot_keeps_settled N k K L h z v c hc (pivots_keep_settled r c hc s)
 
 -- settle their own vertices,
-pub pivots_settle : {N from k : ℕ} {M L : Matrix} → Pivots N from M k L → (c : ℕ) → from ≤ c → c < k → Settled N L c
+pub pivots_settle : {N from : ℕ} {M : Matrix} {k : ℕ} {L : Matrix} → Pivots N from M k L → (c : ℕ) → from ≤ c → c < k → Settled N L c
 pivots_settle (start f) c l hc = absurd (not_below_zero 0 (omega arith))
 pivots_settle {N} (next {k} {K} {L} r f h z v) c l hc = go (pivots_settle r c l) (dec_lt c k)
   where
@@ -82,7 +82,7 @@ pivots_settle {N} (next {k} {K} {L} r f h z v) c l hc = go (pivots_settle r c l)
     go before (no q) = let e : c ≡ k = omega arith in rw e (pivot_settles N k K L h z v)
 
 -- and so close a matrix whose other vertices are settled.
-pub pivots_closed : {N from k : ℕ} {M L : Matrix} → Pivots N from M k L → OthersSettled N from k M → Closed N L
+pub pivots_closed : {N from : ℕ} {M : Matrix} {k : ℕ} {L : Matrix} → Pivots N from M k L → OthersSettled N from k M → Closed N L
 pivots_closed {N} {from} {k} {M} {L} r others = settled_closed (λ c hc. go c hc (dec_lt c from) (dec_lt c k))
   where
     go : (c : ℕ) → c < N → Dec (c < from) → Dec (c < k) → Settled N L c

@@ -68,7 +68,7 @@ parts_weak N Q M a b ha hb = go (M a b)
     go none = record { weak = tt }
     go (some e z) = record { weak = omega arith }
 
-pub pivots_weak : {N from k : ℕ} {M L : Matrix} → Pivots N from M k L → AllWeak N M → AllWeak N L
+pub pivots_weak : {N from : ℕ} {M : Matrix} {k : ℕ} {L : Matrix} → Pivots N from M k L → AllWeak N M → AllWeak N L
 pivots_weak (start f) w a b ha hb = w a b ha hb
 pivots_weak {N} {from} {L = L} (next {k = k} {K = K} r f h z v) w a b ha hb = go (v.kept a b ha hb) (pivots_weak r w)
   where

@@ -183,7 +183,7 @@ module _ (N D from p : ℕ) (M L : Matrix) (f : from ≤ p) (hp : p < N) (zp : w
       go (inr h) (yes e) = same (⊑_trans e h)
       go (inr h) (no n) = joined h n
 
-support : {N from k : ℕ} {M L : Matrix} (D : ℕ) → AllWithin N D M → Pivots N from M k L → (a b : ℕ) → a < N → b < N
+support : {N from : ℕ} {M : Matrix} {k : ℕ} {L : Matrix} (D : ℕ) → AllWithin N D M → Pivots N from M k L → (a b : ℕ) → a < N → b < N
     → Support from k D L a b
 support {M = M} D w (start f) a b ha hb = record {
   used = λ c. 0;
@@ -197,7 +197,7 @@ support {N} {from} D w (next {k} {K} {L} r f h z v) a b ha hb =
     next_support N D from k K L f h z v (pivots_settle r) (λ i j hi hj. support D w r i j hi hj) a b ha hb
 
 -- From entries within D, the pivots from .. k - 1 make entries within (k + 1) * D.
-pub linear : {N from k : ℕ} {M L : Matrix} (D : ℕ) → AllWithin N D M → Pivots N from M k L → AllWithin N (suc k * D) L
+pub linear : {N from : ℕ} {M : Matrix} {k : ℕ} {L : Matrix} (D : ℕ) → AllWithin N D M → Pivots N from M k L → AllWithin N (suc k * D) L
 linear {k = k} {L = L} D w r a b ha hb =
     let s = support D w r a b ha hb in
     within_wider (suc (sum_to k s.used) * D) _ (L a b)

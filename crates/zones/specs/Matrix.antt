@@ -68,7 +68,7 @@ settled_closed s = record { tri = λ a b c ha hb hc. (s c hc).tri a b ha hb; dia
 -- ---- Pivots and solutions
 
 -- Pivots only tighten.
-pub pivots_low : {N from k : ℕ} {M L : Matrix} → Pivots N from M k L → (a b : ℕ) → a < N → b < N → L a b ⊑ M a b
+pub pivots_low : {N from : ℕ} {M : Matrix} {k : ℕ} {L : Matrix} → Pivots N from M k L → (a b : ℕ) → a < N → b < N → L a b ⊑ M a b
 pivots_low (start f) a b ha hb = ⊑_refl _
 pivots_low (next r f h z v) a b ha hb = ⊑_trans (v.low a b ha hb) (pivots_low r a b ha hb)
 
@@ -82,22 +82,22 @@ pivot_keeps {N} {p} {M} v h P x l s a b ha hb =
     way = sat_sum P (x a) (x p) (x b) (M a p) (M p b) (s a p ha h) (s p b h hb)
 
 -- and after pivots in turn,
-pub pivots_keep : {N from k : ℕ} {M L : Matrix} → Pivots N from M k L
+pub pivots_keep : {N from : ℕ} {M : Matrix} {k : ℕ} {L : Matrix} → Pivots N from M k L
     → (P : ℕ) (x : ℕ → ℕ) → 0 < P → Solves N P M x → Solves N P L x
 pivots_keep (start f) P x l s = s
 pivots_keep (next r f h z v) P x l s = pivot_keeps v h P x l (pivots_keep r P x l s)
 
 -- and the other way round.
-pub pivots_back : {N from k : ℕ} {M L : Matrix} → Pivots N from M k L
+pub pivots_back : {N from : ℕ} {M : Matrix} {k : ℕ} {L : Matrix} → Pivots N from M k L
     → (P : ℕ) (x : ℕ → ℕ) → 0 < P → Solves N P L x → Solves N P M x
 pivots_back r P x l s a b ha hb = sat_mono P (x a) (x b) l (pivots_low r a b ha hb) (s a b ha hb)
 
 -- A diagonal entry below zero, a negative cycle, leaves no solution.
-pub pivots_fail : {N from k : ℕ} {M L : Matrix} → Pivots N from M k L → k < N → ¬ (weak_zero ⊑ L k k) → ¬ Solution N M
+pub pivots_fail : {N from : ℕ} {M : Matrix} {k : ℕ} {L : Matrix} → Pivots N from M k L → k < N → ¬ (weak_zero ⊑ L k k) → ¬ Solution N M
 pivots_fail {k = k} {L = L} r h n (P, l, (x, s)) = n (self_sat P (x k) (L k k) l (pivots_keep r P x l s k k h h))
 
 -- The first vertices of a matrix are pivoted as it is, as long as each pivot is one of them.
-pub pivots_narrow : {N from k : ℕ} {M L : Matrix} → Pivots N from M k L → (n : ℕ) → k ≤ n → n ≤ N → Pivots n from M k L
+pub pivots_narrow : {N from : ℕ} {M : Matrix} {k : ℕ} {L : Matrix} → Pivots N from M k L → (n : ℕ) → k ≤ n → n ≤ N → Pivots n from M k L
 pivots_narrow (start f) n h l = start f
 pivots_narrow (next r f h z v) n k l = next (pivots_narrow r n (omega arith) l) f (omega arith) z (record {
   low = λ a b ha hb. v.low a b (omega arith) (omega arith);
