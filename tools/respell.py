@@ -44,7 +44,7 @@ def wanted(name):
 
 def files(top, *ends):
     for f in sorted(glob.glob(os.path.join(top, "crates", "**", "*"), recursive=True)):
-        if f.endswith(ends) and os.path.isfile(f) and "/out/" not in f:
+        if f.endswith(ends) and os.path.isfile(f) and not re.search(r"/crates/[^/]+/out/", f):
             yield f
 
 

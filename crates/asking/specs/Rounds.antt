@@ -5,7 +5,7 @@ use Rattle.table.specs.declared.Read.TheVariants as read
 use Rattle.wire.specs.Records.{Bytes}
 use Rattle.wire.specs.Reading.{read_of}
 use Rattle.wire.specs.Listing.{listing, cycle}
-use Rattle.format.specs.Accepted.{accepted_counted}
+use Rattle.format.proofs.Accepted.{accepted_counted}
 use Rattle.format.specs.Fair.{legal_clocks}
 use Rattle.runs.specs.Run.{copies}
 use Rattle.runs.specs.declared.Demand.{Demand}

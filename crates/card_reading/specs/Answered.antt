@@ -9,7 +9,7 @@ use Rattle.cards.specs.declared.Converted.TheVariants.{Written, Refused}
 use Rattle.cards.specs.Card.{card_read}
 use Rattle.cards.specs.Convert.{table_of, answer_of, room_after, to_table}
 use Rattle.cards.specs.Handed.{Handed, draft_handed}
-use Rattle.cards.specs.RoundTrip.{card_long, card_table}
+use Rattle.cards.proofs.RoundTrip.{card_long, card_table}
 use Rattle.card_reading.specs.Drafted.{Drafted, refuses, drafts}
 
 -- the answer, by what is read

@@ -14,7 +14,7 @@ use Rattle.cards.specs.declared.Converted.{Converted}
 use Rattle.cards.specs.declared.Converted.TheVariants.{Written, Refused}
 use Rattle.cards.specs.Card.{check_lines, card_read}
 use Rattle.cards.specs.Convert.{bytes_of, table_of}
-use Rattle.cards.specs.RoundTrip.{card_short}
+use Rattle.cards.proofs.RoundTrip.{card_short}
 use Rattle.card_lines.specs.declared.Found.{Found}
 use Rattle.card_lines.specs.Fronts.{Fronts}
 use Rattle.card_reading.specs.Judged.{judge_found, found_bytes}

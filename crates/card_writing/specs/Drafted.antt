@@ -8,7 +8,7 @@ use Rattle.wire.specs.Records.{Bytes}
 use Rattle.wire.specs.Reading.{read_of}
 use Rattle.cards.specs.declared.Converted.TheVariants.{Refused}
 use Rattle.cards.specs.Convert.{card_of, handed, answer_of, to_card}
-use Rattle.cards.specs.RoundTrip.{table_card}
+use Rattle.cards.proofs.RoundTrip.{table_card}
 
 module _ (bytes : List ℕ) where
   -- the card of an accepted table has room in a draft

@@ -80,19 +80,10 @@ text_recorded at (c ∷ cs) plain =
     λ i. line_text (content_of_lem at c (plain c (Memᴰ.head refl)) i)
     ++ 10 ∷ text_recorded (at + length (record_bytes c)) cs (λ d m. plain d (Memᴰ.tail m)) i
 
-bytes_lined : (at : ℕ) (cs : List Content) → bytes_of (lined at cs) ≡ bytes_for cs
-unfolding bytes_of lined bytes_for
-bytes_lined at [] = refl
-bytes_lined at (c ∷ cs) = ap (λ bs. record_bytes c ++ bs) (bytes_lined (at + length (line_text c) + 1) cs)
-
--- So contents go from a table to a card, and from a card to a table.
+-- So contents go from a table to a card.
 pub card_for : (cs : List Content) → PlainContents cs → card_of (bytes_for cs) ≡ text_for cs
 unfolding card_of
 card_for cs plain = ap text_of (records_for 0 cs) ∙ text_recorded 0 cs plain
-
-pub table_for : (cs : List Content) → PlainContents cs → table_of (text_for cs) ≡ bytes_for cs
-unfolding table_of
-table_for cs plain = ap bytes_of (lines_for 0 cs plain) ∙ bytes_lined 0 cs
 
 -- one more of them
 pub plain_more : (c : Content) (cs : List Content) → PlainContent c → PlainContents cs → PlainContents (c ∷ cs)

@@ -11,6 +11,3 @@ pub mod Alike
 pub mod Accepted
 pub mod Small
 pub mod Listed
-pub mod RoundTrip
-pub mod Returns
-pub mod Faults

@@ -8,7 +8,7 @@ use Rattle.table.specs.declared.Relation.{Relation}
 use Rattle.table.specs.declared.Relation.TheVariants.{Under, AtMost, Exactly, AtLeast, Over}
 use Rattle.wire.specs.Listing.{Entry, guard, reset, Listing, Content, head, entry, finish, close, guards_of, resets_of}
 use Rattle.format.specs.Encode.{entry_bytes, step_bytes, steps_bytes, encode, guard_count, LegalEntry, LegalSteps, Legal}
-use Rattle.format.specs.Longest.{resets_few}
+use Rattle.format.proofs.Longest.{resets_few}
 use Rattle.cards.specs.Words.{timers_word, zero_word}
 use Rattle.cards.specs.Convert.{numeral, sign_of, line_text}
 use Rattle.cards.specs.Numbers.{numeral_short}

@@ -1,4 +1,4 @@
--- What a line says, and its text: each is the other's (`says-text`, `text_says`). No line says a guard of two clocks (`says_plain`).
+-- What a line says, and its text: each is the other's (`says_text`, `text_says`). No line says a guard of two clocks (`says_plain`).
 use Rattle.std.specs.Prelude.{◌≡◌, Bool, true, false, cond, ◌&&◌, List, [], ◌∷◌, ◌++◌, ℕ, ◌<◌, ◌≤◌, eqb, leb}
 use Rattle.std.proofs.Math.Path.{refl}
 use Rattle.std.proofs.Common.{sym, ◌∙◌, ap, subst, append_assoc, arith, eqb-true, eq-eqb, leb-true}

@@ -19,7 +19,7 @@ use Rattle.wire.specs.Reading.{judge_of, check}
 use Rattle.wire.specs.Laws.{onward}
 use Rattle.wire.specs.Listing.{guard, reset, Content, head, entry, finish, close}
 use Rattle.format.specs.Encode.{relation_code}
-use Rattle.format.specs.Encoded.{relation_known}
+use Rattle.format.proofs.Encoded.{relation_known}
 use Rattle.format.specs.Judged.{within_true}
 use Rattle.format.specs.Shapes.{refused_counted}
 use Rattle.cards.specs.Card.{tested}

@@ -1,4 +1,4 @@
--- The last resets, a list, are the function of `stepsDemands`.
+-- The last resets, a list, are the function of `steps_demands`.
 use Rattle.std.specs.Prelude.{◌≡◌, Bool, false, cond, List, set}
 use Rattle.std.proofs.Math.Path.{refl}
 use Rattle.std.proofs.Common.{sym, ap, ◌∙◌, add-one, get_or-set_same, get_or-drop, get_or-take}

@@ -13,7 +13,7 @@ use Rattle.filling.specs.Filling.{empty}
 use Rattle.decode.specs.Fill.{filled, table_of}
 use Rattle.decode.specs.Laws.{table_counted}
 use Rattle.format.specs.Encode.{encode}
-use Rattle.format.specs.Accepted.{Written, accepted_written}
+use Rattle.format.proofs.Accepted.{Written, accepted_written}
 use Rattle.format.specs.Fair.{legal_clocks, legal_resets}
 use Rattle.decode.specs.Represent.{Represents, filled_encoded}
 

@@ -9,7 +9,7 @@ use Rattle.table.specs.Step.{step_at, steps_from, steps_of, Fairs, Good}
 use Rattle.wire.specs.Records.{records}
 use Rattle.wire.specs.Listing.{Entry, guard, reset, Listing, guards_of, flagged, step_of, cycle}
 use Rattle.format.specs.Encode.{encode, guard_count, LegalEntry, Legal}
-use Rattle.filling.specs.Filling.{empty, put_head}
+use Rattle.filling.specs.Filling.{empty, put_head, put_step}
 use Rattle.decode.specs.Fill.{filled}
 use Rattle.format.specs.Fair.{legal_fair}
 use Rattle.decode.specs.Slices.{get_d_all}
@@ -56,9 +56,9 @@ module _ {n : ℕ} (few : n ≤ 6) where
       → Holds n (put_entries es t) done (begun ++ es)
   unfolding put_entries
   holds_entries [] h legal fits room = rw append-nil h
-  holds_entries {begun = begun} (e ∷ es) h legal fits room =
+  holds_entries {t = t} {done = done} {begun = begun} (e ∷ es) h legal fits room =
       rw (← append_snoc begun e es)
-      (holds_entries es
+      (holds_entries {t = put_entry e t} es
       (holds_entry e h (legal e (Memᴰ.head refl)) fits (omega (arith, guards_length (e ∷ []) es)))
       (λ e' m. legal e' (Memᴰ.tail m)) fits
       (omega (arith, guards_length begun (e ∷ []), guards_length (e ∷ []) es)))
@@ -68,9 +68,9 @@ module _ {n : ℕ} (few : n ≤ 6) where
       → length done + length ss ≤ 16 → guard_count done + guard_count ss ≤ 64 → Holds n (put_steps ss t) (done ++ ss) []
   unfolding put_steps guard_count guards_of
   holds_steps [] h legal fits room = rw append-nil h
-  holds_steps {t} {done} (s ∷ ss) h legal fits room =
+  holds_steps {t = t} {done = done} (s ∷ ss) h legal fits room =
       rw (← append_snoc done s ss)
-      (holds_steps ss (holds_step one (omega (arith, one.steps))) (λ s' m. legal s' (Memᴰ.tail m))
+      (holds_steps {t = put_step (put_entries s t)} ss (holds_step one (omega (arith, one.steps))) (λ s' m. legal s' (Memᴰ.tail m))
       (omega (arith, length-append done (s ∷ []))) (omega (arith, count_append done (s ∷ []))))
     where
       one : Holds n (put_entries s t) done s

@@ -14,6 +14,7 @@ use Rattle.format.specs.Encode.{LegalEntry, Legal}
 -- a guard of a step is one of its entries
 guard_member : {g : Guard} (es : List Entry) → Memᴰ g (guards_of es) → Memᴰ (guard g) es
 unfolding guards_of
+guard_member {g = g} [] m = elim m [ ]
 guard_member (guard g ∷ es) (Memᴰ.head e) = Memᴰ.head (ap guard e)
 guard_member (guard g ∷ es) (Memᴰ.tail m) = Memᴰ.tail (guard_member es m)
 guard_member (reset j ∷ es) m = Memᴰ.tail (guard_member es m)

@@ -1,4 +1,4 @@
--- The first fault counts. Bytes are at most 4,096 here: over that, 1 (length) is given before the first byte (`read-long`).
+-- The first fault counts. Bytes are at most 4,096 here: over that, 1 (length) is given before the first byte (`read_long`).
 -- Where they end matters to one row more, 2 (cut), which is given where they run out.
 use Rattle.std.specs.Prelude.{◌≡◌, refl, ◌⊎◌, ◌≢◌, Bool, true, false, ℕ, ◌≤◌, ◌<◌, length, get_or, take}
 use Rattle.std.proofs.Common.{sym, ap, subst, inl, inr, ⊎_elim, arith, length-append}

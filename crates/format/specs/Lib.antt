@@ -1,11 +1,7 @@
 pub mod Encode
 pub mod Shapes
-pub mod Longest
-pub mod Encoded
 pub mod Located
 pub mod Judged
-pub mod Ending
-pub mod Accepted
 pub mod Fair
 pub mod Reach
 pub mod Rows

@@ -22,8 +22,7 @@ use runs::Start;
 const PLACES: usize = 4;
 
 // The question "read": 0, clocks, steps, guards (01: n, L, bounds).
-#[unsafe(no_mangle)]
-pub extern "C" fn judge_read(table: &[u8], answer: &mut [u64]) -> bool
+pub fn judge_read(table: &[u8], answer: &mut [u64]) -> bool
     ensures { (result ≡ roomy answer.old)
         × (answer.new ≡ answered answer.old (read_numbers (read_of table.now))) }
 {
@@ -48,16 +47,14 @@ fn rounds_from(table: &[u8], start: Start, answer: &mut [u64]) -> bool
     true
 }
 
-#[unsafe(no_mangle)]
-pub extern "C" fn judge_rounds(table: &[u8], answer: &mut [u64]) -> bool
+pub fn judge_rounds(table: &[u8], answer: &mut [u64]) -> bool
     ensures { (result ≡ roomy answer.old)
         × RoundsTold result table.now LogIn answer.old answer.new }
 {
     rounds_from(table, Start::LogIn, answer)
 }
 
-#[unsafe(no_mangle)]
-pub extern "C" fn judge_rounds_mid_shift(table: &[u8], answer: &mut [u64]) -> bool
+pub fn judge_rounds_mid_shift(table: &[u8], answer: &mut [u64]) -> bool
     ensures { (result ≡ roomy answer.old)
         × RoundsTold result table.now MidShift answer.old answer.new }
 {
@@ -89,8 +86,7 @@ fn plan_from(
     true
 }
 
-#[unsafe(no_mangle)]
-pub extern "C" fn judge_plan(
+pub fn judge_plan(
     table: &[u8],
     k: u64,
     times: &mut [u64],
@@ -107,8 +103,7 @@ pub extern "C" fn judge_plan(
     plan_from(table, Start::LogIn, k, times, starts, room, answer)
 }
 
-#[unsafe(no_mangle)]
-pub extern "C" fn judge_plan_mid_shift(
+pub fn judge_plan_mid_shift(
     table: &[u8],
     k: u64,
     times: &mut [u64],
@@ -140,8 +135,7 @@ fn demands_from(table: &[u8], start: Start, k: u64, row: &mut [i64], answer: &mu
     true
 }
 
-#[unsafe(no_mangle)]
-pub extern "C" fn judge_demands(table: &[u8], k: u64, row: &mut [i64], answer: &mut [u64]) -> bool
+pub fn judge_demands(table: &[u8], k: u64, row: &mut [i64], answer: &mut [u64]) -> bool
     ensures { (result ≡ roomy answer.old)
         × (answer.new ≡ answered answer.old
         (demands_numbers (listed_of table.now LogIn k (row_room row.old))))
@@ -150,13 +144,7 @@ pub extern "C" fn judge_demands(table: &[u8], k: u64, row: &mut [i64], answer: &
     demands_from(table, Start::LogIn, k, row, answer)
 }
 
-#[unsafe(no_mangle)]
-pub extern "C" fn judge_demands_mid_shift(
-    table: &[u8],
-    k: u64,
-    row: &mut [i64],
-    answer: &mut [u64],
-) -> bool
+pub fn judge_demands_mid_shift(table: &[u8], k: u64, row: &mut [i64], answer: &mut [u64]) -> bool
     ensures { (result ≡ roomy answer.old)
         × (answer.new ≡ answered answer.old
         (demands_numbers (listed_of table.now MidShift k (row_room row.old))))

@@ -6,7 +6,7 @@ use Rattle.table.specs.declared.Read.TheVariants as read
 use Rattle.wire.specs.Reading.{read_of}
 use Rattle.wire.specs.Listing.{step_of, listing}
 use Rattle.wire.specs.Records.{Bytes}
-use Rattle.format.specs.Accepted.{Counted, accepted_counted}
+use Rattle.format.proofs.Accepted.{Counted, accepted_counted}
 use Rattle.format.specs.Fair.{legal_clocks, legal_fair}
 use Rattle.asking.specs.Rounds.{clocks_of, cycle_of, rounds_in}
 use Rattle.runs.specs.declared.Start.TheVariants.{LogIn}

@@ -7,7 +7,3 @@ pub mod Third
 pub mod Entries
 -- and the promises hold
 pub mod Rows
-pub mod FirstHolds
-pub mod Plans
-pub mod SecondHolds
-pub mod ThirdHolds

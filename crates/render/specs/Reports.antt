@@ -36,7 +36,7 @@ abbrev pub TellsOf : Read → List ℕ → List ℕ → Type 0
 TellsOf (read.Refused f) bytes text = text ≡ refusal_line f
 TellsOf (read.Counted n L g) bytes text = Tells bytes n L g text
 
--- A text is the report on a table's bytes. There is only one (`report-unique`).
+-- A text is the report on a table's bytes. There is only one (`report_unique`).
 pub record Reports (bytes text : List ℕ) : Type 0 where
   pub reports : TellsOf (read_of bytes) bytes text
 

@@ -2,7 +2,10 @@
 // so that a longer one is seen to be.
 #![tactic(auto)]
 
-use libc::{STDIN_FILENO, STDOUT_FILENO};
+// The standard input and output, as files of the C library.
+const STDIN_FILENO: i32 = 0;
+
+const STDOUT_FILENO: i32 = 1;
 
 fn main() {
     let mut input = [0u8; 4097];

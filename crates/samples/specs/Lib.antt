@@ -8,11 +8,8 @@ pub mod Cycles
 pub mod Rounds
 pub mod Evidence
 pub mod Reads
-pub mod Counted
 pub mod Tight
 pub mod PlanTest
 pub mod LoopTest
-pub mod Plans
-pub mod Claim
 -- guards between two clocks
 pub mod TwoClocks

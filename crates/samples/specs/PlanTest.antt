@@ -1,5 +1,5 @@
 -- A test of moments and starts that only the plan passes.
-use Rattle.std.specs.Prelude.{◌≡◌, Bool, true, ◌&&◌, cond, List, ℕ, suc, ◌+◌, ◌-◌, ◌≤◌, ◌<◌, eqb, ltb, leb, length}
+use Rattle.std.specs.Prelude.{◌≡◌, Bool, true, ◌&&◌, cond, List, ℕ, zero, suc, ◌+◌, ◌-◌, ◌≤◌, ◌<◌, eqb, ltb, leb, length}
 use Rattle.std.proofs.Common.{arith}
 use borrow.Author.Tests.{eqb-true, ltb-true, leb-true, le-leb, lt-leb}
 use Rattle.table.specs.Step.{Step}
@@ -119,6 +119,7 @@ module _ (P n : ℕ) (σ : List Step) (D : Starts) (t s : ℕ → ℕ) where
         is = (run_satisfies P n σ D t s x h.clocks g row).1 h.solution
 
         smallest : (r : ℕ → ℕ) → Run P σ t r → Allowed P D n r → (j : ℕ) → 0 < j → j ≤ n → s j ≤ r j
+        smallest r w a zero p l = elim p [ ]
         smallest r w a (suc j) p l =
             omega (
               arith,

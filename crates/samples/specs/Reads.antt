@@ -8,7 +8,7 @@ use Rattle.wire.specs.Reading.{read_of}
 use Rattle.wire.specs.Listing.{listing}
 use Rattle.format.specs.Encode.{Legal}
 use Rattle.wire.specs.Records.{Bytes}
-use Rattle.format.specs.Accepted.{accepted_counted}
+use Rattle.format.proofs.Accepted.{accepted_counted}
 use Rattle.samples.specs.Checks.{both, all}
 use Rattle.samples.specs.Follows.{Accepted}
 

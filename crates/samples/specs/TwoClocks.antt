@@ -18,7 +18,6 @@ use Rattle.samples.specs.Checks.{all, all_every, some, below}
 use Rattle.samples.specs.Tight.{held, pinned}
 use Rattle.samples.specs.PlanTest.{is_plan}
 use Rattle.samples.specs.LoopTest.{apart, gains, is_loop}
-use Rattle.samples.specs.Plans.{test, test_holds}
 
 -- Steps with clocks 1 to n, a variant of the start, and what is said of them.
 pub record Case : Type 0 where
@@ -72,17 +71,3 @@ cases =
     ∷ worked 2 (step (lead 1 2 AtLeast 1 ∷ []) true false ∷ []) MidShift
     (planned 1 4 (0 ∷ []) (4 ∷ 0 ∷ []) ∷ looped 2 (4 ∷ 1 ∷ 0 ∷ []) (less 1 ∷ pos 0 ∷ pos 0 ∷ []) ∷ [])
     ∷ []
-
--- the whole list passes, by computation
-pass : all (λ (c : Case). all (test c.clocks (starts_of c.start) c.steps) c.plans) cases ≡ true
-unfolding cases up_of down_of end_of copies zeroed any_starts zero_starts demands steps_demands guards_demands start_demands
-    top all some below held pinned is_plan apart gains is_loop
-pass = refl
-
--- The plans and loops that are given are plans and loops.
-pub cases_follow : (c : Case) → Memᴰ c cases → Every (PlanHolds c.clocks (starts_of c.start) c.steps) c.plans
-cases_follow c m p i =
-    let n = c.clocks in
-    let D = starts_of c.start in
-    test_holds n D c.steps (upper_places n D (start_upper c.start n)) p
-    (all_every _ c.plans (all_every (λ (c : Case). all (test c.clocks (starts_of c.start) c.steps) c.plans) cases pass c m) p i)

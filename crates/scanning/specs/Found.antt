@@ -32,7 +32,7 @@ use Rattle.format.specs.Shapes.{
   steps_entry,
   refused_counted,
 }
-use Rattle.format.specs.Ending.{kept_none, ends}
+use Rattle.format.proofs.Ending.{kept_none, ends}
 use Rattle.format.specs.Judged.{Told, is_refused, is_head, is_entry, is_finish, is_end, judged}
 use Rattle.scans.specs.Scan.{holds, first_failing, aged}
 use Rattle.scanning.specs.declared.Progress.{Progress}

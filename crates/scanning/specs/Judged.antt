@@ -14,7 +14,7 @@ use Rattle.wire.specs.Records.{Bytes}
 use Rattle.wire.specs.Reading.{read_of}
 use Rattle.wire.specs.Listing.{Entry, guards_of, listing, step_of}
 use Rattle.format.specs.Encode.{LegalEntry}
-use Rattle.format.specs.Accepted.{Counted, accepted_counted}
+use Rattle.format.proofs.Accepted.{Counted, accepted_counted}
 use Rattle.asking.specs.Rounds.{cycle_of}
 use Rattle.ticks.specs.Ticks.{elapsed_of}
 use Rattle.scans.specs.declared.Running.{Running}

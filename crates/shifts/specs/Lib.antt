@@ -5,6 +5,3 @@ pub mod Handed
 -- and it holds
 pub mod Grown
 pub mod Held
-pub mod Kept
-pub mod Holds
-pub mod HandedHolds

@@ -65,6 +65,7 @@ fn width_of(first: u64, last: u64) -> u64
 }
 
 // The widest so far and one closed window more: the first among equals stays.
+#[tactic(auto, using(crate::proofs::Closed::closed_rules))]
 fn with_closed(best: Best, first: u64, last: u64, parts: u64) -> Best
     requires { Small (Closed first last) parts }
     ensures { result ≡ closed_of parts best first last }

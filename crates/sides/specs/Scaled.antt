@@ -4,7 +4,7 @@ use Rattle.std.proofs.Common.{sym, ap, ◌∙◌, inl, arith, mul-le-mul_right}
 use Rattle.std.proofs.Math.Logic.{inr}
 use mathlib.Core.List.Memᴰ
 use mathlib.Core.List.{List, [], ◌∷◌, ◌++◌, map, map-append}
-use Rattle.std.proofs.Math.Decide.{ℕ_discrete, dec_le, dec_lt}
+use Rattle.std.proofs.Math.Decide.{dec_le, dec_lt}
 use Rattle.table.specs.Step.{up_of, down_of, end_of, FairGuard}
 use Rattle.table.specs.declared.Guard.{Guard}
 use Rattle.table.specs.declared.Relation.{Relation}

@@ -18,7 +18,7 @@ use Rattle.format.specs.Encode.{entry_bytes, step_bytes, guard_count}
 use Rattle.format.specs.Shapes.{entered, stepped, head_tally, refused_counted}
 use Rattle.format.specs.Located.{Located, bytes_in, bytes_in_lem, located}
 use Rattle.format.specs.Judged as plain
-use Rattle.format.specs.Ending.{before, Kept, kept_none, kept_entry, kept_finish, before_more, before_step, guards_last, bytes_entry}
+use Rattle.format.proofs.Ending.{before, Kept, kept_none, kept_entry, kept_finish, before_more, before_step, guards_last, bytes_entry}
 use Rattle.stretches.specs.declared.Open.{Open}
 use Rattle.stretches.specs.Reading.{Said, lift, opening, repeated, at_close, judge_in, check_in, read_out}
 use Rattle.stretches.specs.Laws.{onward_in, check_said, out_counted}

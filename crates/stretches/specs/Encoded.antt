@@ -12,8 +12,8 @@ use Rattle.wire.specs.Reading.{judge_of}
 use Rattle.wire.specs.Listing.{Entry, guard, reset, guards_of}
 use Rattle.format.specs.Encode.{entry_bytes, step_bytes, guard_count, LegalStep}
 use Rattle.format.specs.Shapes.{head_with, entry_at, finish_at, end_at, entered, stepped, head_tally, guards_more}
-use Rattle.format.specs.Encoded.{judge_head, judge_entry, judge_finish, judge_end, records_more, Free, free_none, free_first, free_rest, legal_rest}
-use Rattle.format.specs.Longest.{step_length, resets_few}
+use Rattle.format.proofs.Encoded.{judge_head, judge_entry, judge_finish, judge_end, records_more, Free, free_none, free_first, free_rest, legal_rest}
+use Rattle.format.proofs.Longest.{step_length, resets_few}
 use Rattle.stretches.specs.declared.Open.{Open}
 use Rattle.stretches.specs.Reading.{next, last, lift, opening, opened, closed, repeated, at_close, judge_in, check_in, read_out}
 use Rattle.stretches.specs.Laws.{check_said}

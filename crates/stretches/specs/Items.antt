@@ -7,7 +7,6 @@ use mathlib.Core.List.{List, ◌∷◌}
 use borrow.Author.Tests.{eq-eqb, ne_eqb, le-leb, lt-leb, leb-true}
 use Rattle.table.specs.declared.Fault.TheVariants as fault
 use Rattle.table.specs.declared.Refusal.{Refusal}
-use Rattle.table.specs.declared.Read.{Read}
 use Rattle.records.specs.declared.Tally.{Tally}
 use Rattle.records.specs.Rules.{body_size, within}
 use Rattle.records.specs.Tests.{both}

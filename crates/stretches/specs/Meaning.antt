@@ -6,12 +6,12 @@ use mathlib.Core.List.{List, [], ◌∷◌, ◌++◌, append_assoc, append-nil, 
 use Rattle.table.specs.declared.Read.TheVariants as read
 use Rattle.wire.specs.Records.{Bytes, Record, records_from}
 use Rattle.wire.specs.Reading.{read_of}
-use Rattle.wire.specs.Listing.{Entry, guard, reset, Listing, listing}
-use Rattle.format.specs.Encode.{encode, entry_bytes, step_bytes, guard_count, LegalEntry, LegalStep, LegalSteps, Legal}
-use Rattle.format.specs.Accepted.{Counted}
+use Rattle.wire.specs.Listing.{Entry, guard, reset, listing}
+use Rattle.format.specs.Encode.{encode, entry_bytes, step_bytes, LegalEntry, LegalStep, LegalSteps}
+use Rattle.format.proofs.Accepted.{Counted}
 use Rattle.format.specs.Shapes.{entry_at, guard_back}
-use Rattle.format.specs.Encoded.{records_more}
-use Rattle.format.specs.Encoded as plain
+use Rattle.format.proofs.Encoded.{records_more}
+use Rattle.format.proofs.Encoded as plain
 use Rattle.stretches.specs.Reading.{read_out}
 use Rattle.stretches.specs.Tree.{Items, none, step, stretch, items_on, encode_items, copies, expand, Sound, sound_none, sound_step, sound_stretch}
 use Rattle.stretches.specs.Listing.{Level, steps_out, written_out}

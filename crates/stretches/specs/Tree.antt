@@ -1,5 +1,5 @@
 -- A table with stretches as it is written: items, of which each is a step or a stretch (02); and what it means, the steps written out.
-use Rattle.std.specs.Prelude.{◌≡◌, List, [], ◌∷◌, ◌++◌, ℕ, zero, suc, ◌+◌, ◌*◌, ◌≤◌, ◌<◌, length}
+use Rattle.std.specs.Prelude.{◌≡◌, List, [], ◌∷◌, ◌++◌, ℕ, zero, suc, ◌*◌, ◌≤◌, ◌<◌, length}
 use Rattle.std.proofs.Common.{arith, length-append}
 use Rattle.wire.specs.Listing.{Entry}
 use Rattle.format.specs.Encode.{step_bytes, LegalStep}

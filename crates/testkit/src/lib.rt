@@ -4,7 +4,9 @@
 ghost use Rattle.std.specs.Prelude.{◌≡◌, [], ◌∷◌, ◌≤◌, length, nat_abs};
 ghost use Rattle.testkit.specs.Filled.{repeated_of, byte_of, filled_of, wide_steps};
 
-use libc::STDOUT_FILENO;
+// The standard output, as a file of the C library.
+const STDOUT_FILENO: i32 = 1;
+
 use table::Refusal;
 
 // A tape of cases: of each a name, a colon, the length of its table, and the table. First 01's samples; x is clock 1, y clock 2.

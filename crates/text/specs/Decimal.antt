@@ -21,7 +21,7 @@ value_from before [] = before
 value_from before (d ∷ ds) = value_from (before * 10 + (d - 48)) ds
 
 -- What the decimal of x is: one digit or more, no leading zero but that of "0", and the value x.
--- That `decimal` gives it is `decimal-right` of Numerals.
+-- That `decimal` gives it is `decimal_right` of Numerals.
 pub record Numeral (x : ℕ) (ds : List ℕ) : Type 0 where
   pub some : 1 ≤ length ds
   pub digit : (d : ℕ) → Memᴰ d ds → (48 ≤ d) × (d ≤ 57)

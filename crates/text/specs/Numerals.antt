@@ -1,4 +1,4 @@
--- The decimal of a number is right (`decimal-right`), and has 20 digits at most (`decimal-few`).
+-- The decimal of a number is right (`decimal_right`), and has 20 digits at most (`decimal_few`).
 use Rattle.std.specs.Prelude.{◌≡◌, cond, List, [], ◌∷◌, ◌++◌, ℕ, zero, suc, ◌+◌, ◌*◌, ◌-◌, ◌/◌, ◌%◌, ◌^◌, ◌≤◌, ◌<◌, ltb, length, get_or}
 use Rattle.std.proofs.Math.Path.{refl}
 use Rattle.std.proofs.Common.{sym, ◌∙◌, ap, ⊎_elim, arith, pow-suc, length-append, lt-ltb, le-ltb}

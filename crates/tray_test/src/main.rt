@@ -8,11 +8,13 @@
 
 ghost use Rattle.std.specs.Prelude.{◌≤◌, length};
 
-use libc::STDIN_FILENO;
 use scans::{Running, log_in};
 use testkit::{column, field, find, name, readings_in, refusal, table, title, word};
 use traying::tray;
 use trays::Outcome;
+
+// The standard input, as a file of the C library.
+const STDIN_FILENO: i32 = 0;
 
 fn record(running: Running) {
     let readings = running.readings;

@@ -146,6 +146,7 @@ fn refuse(running: Running, fault: Fault) -> Trayed
 }
 
 // A tray by an accepted table: a record that it cannot go on from is refused, too many counters, and a short room.
+#[tactic(auto, using(crate::proofs::Admitted::admitted_rules))]
 fn admit(t: Table, running: Running, counters: &[u16], verdicts: &mut [u16]) -> Trayed
     requires { Good t × Clocks t.clocks (steps_of t) }
     ensures { Given t running counters.now verdicts.old result verdicts.new }

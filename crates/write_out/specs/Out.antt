@@ -8,7 +8,7 @@ use Rattle.std.proofs.Math.Seq.{length-take-le}
 use Rattle.wire.specs.Records.{Bytes}
 use Rattle.wire.specs.Listing.{Entry}
 use Rattle.format.specs.Encode.{step_bytes, steps_bytes, encode}
-use Rattle.format.specs.Longest as plain
+use Rattle.format.proofs.Longest as plain
 use Rattle.text.specs.Over as text
 use Rattle.stretches.specs.Tree.{Items, encode_items, expand, Sound, sound_none, sound_step, sound_stretch}
 use Rattle.stretches.specs.Laws.{out_counted}

@@ -8,7 +8,7 @@ use Rattle.wire.specs.Records.{Bytes}
 use Rattle.wire.specs.Reading.{read_of}
 use Rattle.wire.specs.Listing.{Entry, Listing, listing}
 use Rattle.format.specs.Encode.{step_bytes, steps_bytes, encode, LegalSteps, Legal}
-use Rattle.format.specs.Accepted.{accepted_written}
+use Rattle.format.proofs.Accepted.{accepted_written}
 use Rattle.stretches.specs.Reading.{read_out}
 use Rattle.stretches.specs.Tree.{Items, none, step, items_on, encode_items, expand, Sound, sound_none, sound_step}
 use Rattle.stretches.specs.Listing.{written_out}

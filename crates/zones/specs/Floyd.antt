@@ -83,7 +83,7 @@ pivots_settle {N} (next {k} {K} {L} r f h z v) c l hc = go (pivots_settle r c l)
 
 -- and so close a matrix whose other vertices are settled.
 pub pivots_closed : {N from : ℕ} {M : Matrix} {k : ℕ} {L : Matrix} → Pivots N from M k L → OthersSettled N from k M → Closed N L
-pivots_closed {N} {from} {k} {M} {L} r others = settled_closed (λ c hc. go c hc (dec_lt c from) (dec_lt c k))
+pivots_closed {N} {from} {M} {k} {L} r others = settled_closed (λ c hc. go c hc (dec_lt c from) (dec_lt c k))
   where
     go : (c : ℕ) → c < N → Dec (c < from) → Dec (c < k) → Settled N L c
     go c hc (yes l) d = pivots_keep_settled r c hc (others c hc (inl l))

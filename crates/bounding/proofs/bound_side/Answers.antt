@@ -1,0 +1,27 @@
+use borrow.Author.Rules.{rules}
+use native.Mathlib.Omega.{arith}
+use Prim.Native.Nat.{◌+◌, ◌-◌}
+use Rattle.sweeps.specs.Order.{side_of}
+use Rattle.checks.specs.SideChecks.{side_from}
+use Rattle.lowering.specs.Lowered.{bounds}
+use Rattle.bounding.specs.Turns.{Turn}
+use Rattle.bounding.specs.Side.{side_first, side_able, side_next, side_last}
+use Rattle.bounding.proofs.bound_side.Goals as goal
+
+pub loop-j-init : goal.loop-j-init
+loop-j-init c = side_first _ _ _ _ _ _ _ _ c.requires.1
+
+pub bound_key-lowest-requires : goal.bound_key-lowest-requires
+bound_key-lowest-requires c =
+    let l = c.loop-j in
+    let t = c.loop-j-test.true in
+    let p = c.requires.0 in
+    (p.few, p.past, omega (arith, t, p.clocks), side_able _ _ _ _ _ _ _ _ l.j _ l.invariant (omega (arith, t)))
+
+pub loop-j-preserved : goal.loop-j-preserved
+loop-j-preserved c =
+    let l = c.loop-j in
+    side_next _ _ _ _ _ _ _ _ l.j _ l.invariant (omega (arith, c.loop-j-test.true)) _ c.bound_key-lowest.ensures
+
+pub returns : goal.returns
+returns c = side_last _ _ _ _ _ _ _ _ _ _ c.loop-j.invariant (omega (arith, c.loop-j-test.false))

@@ -1,0 +1,25 @@
+-- A short answer room keeps both rooms; else the table is written as the card says, and the answer told.
+use mathlib.Core.Path.{ap, ◌∙◌}
+use lib.ListN.{length}
+use Rattle.answers.specs.Answered.{answered, short, roomy_yes}
+use Rattle.cards.specs.Convert.{table_of, to_table}
+use Rattle.card.specs.Told.{converted_numbers, kept, told}
+use borrow.Author.Rules.{rules}
+use Rattle.card.proofs.card_to_table.Goals as goal
+
+pub returns-then-answer-lt-PLACES : goal.returns-then-answer-lt-PLACES
+returns-then-answer-lt-PLACES c =
+    let a = c.args in
+    let left = kept a.answer.now (table_of a.card.now) a.table.now (to_table a.card.now (length a.table.now)) c.if-answer-lt-PLACES.true in
+    (short a.answer.now c.if-answer-lt-PLACES.true, left.0, left.1)
+
+pub returns : goal.returns
+returns c =
+    let a = c.args in
+    let room = c.if-answer-lt-PLACES.false in (
+      roomy_yes a.answer.now room,
+      told a.answer.now (table_of a.card.now) a.table.now (to_table a.card.now (length a.table.now)) c.to_table-converted.result _ room
+          c.to_table-converted.ensures.0 c.to_table-converted.ensures.1,
+      c.put.ensures
+          ∙ ap (answered a.answer.now) (c.converted_numbers.ensures ∙ ap converted_numbers c.to_table-converted.ensures.0),
+    )

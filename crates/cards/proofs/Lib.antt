@@ -1,0 +1,4 @@
+pub mod Faults
+pub mod Lined
+pub mod RoundTrip
+pub mod Returns

@@ -1,0 +1,30 @@
+use borrow.Author.Rules.{rules}
+use native.Mathlib.Omega.{arith}
+use Prim.Native.Nat.{◌+◌, ◌-◌}
+use Rattle.sweeps.specs.Order.{side_of}
+use Rattle.paths.specs.State.{state}
+use Rattle.checks.specs.Turns.{Turn, turn_size}
+use Rattle.checks.specs.SideChecks.{side_from, side_first, side_able, side_next, side_last}
+use Rattle.checks.proofs.check_side.Goals as goal
+
+pub loop-j-init : goal.loop-j-init
+loop-j-init c = side_first _ _ _ _ _ _ _ _ _ _ c.requires.1
+
+pub check_key-swept-requires : goal.check_key-swept-requires
+check_key-swept-requires c =
+    let l = c.loop-j in
+    let t = c.loop-j-test.true in
+    let p = c.requires.0 in (
+      p.few,
+      p.past,
+      omega (arith, t, p.clocks),
+      side_able _ _ _ _ _ _ _ _ _ _ l.j _ _ _ l.invariant (omega (arith, t)),
+    )
+
+pub loop-j-preserved : goal.loop-j-preserved
+loop-j-preserved c =
+    let l = c.loop-j in
+    side_next _ _ _ _ _ _ _ _ _ _ l.j _ _ _ l.invariant (omega (arith, c.loop-j-test.true)) _ _ _ c.check_key-swept.ensures
+
+pub returns : goal.returns
+returns c = side_last _ _ _ _ _ _ _ _ _ _ _ _ _ _ c.loop-j.invariant (omega (arith, c.loop-j-test.false))

@@ -1,0 +1,4 @@
+pub mod Longest
+pub mod Encoded
+pub mod Ending
+pub mod Accepted

@@ -1,0 +1,30 @@
+-- A short room is kept, and the others with it; the answer is that of the question.
+use mathlib.Core.Path.{refl, ap, ◌∙◌}
+use Prim.Native.Nat.{◌≤◌, ◌<◌}
+use native.Mathlib.Omega.{arith}
+use lib.ListN.{length}
+use Rattle.answers.specs.Answered.{answered}
+use Rattle.answers.specs.Answered.{short, roomy_yes}
+use borrow.Author.Rules.{rules}
+use Rattle.judge.proofs.plan_from.Goals as goal
+use Rattle.judge.proofs.plan_from.Goals.{Else-answer-lt-PLACES, Then-answer-lt-PLACES}
+
+few : (c : Then-answer-lt-PLACES) → length c.args.answer.now < 4
+few c = omega (arith, c.if-answer-lt-PLACES.true)
+
+enough : (c : Else-answer-lt-PLACES) → 4 ≤ length c.args.answer.now
+enough c = omega (arith, c.if-answer-lt-PLACES.false)
+
+pub returns-then-answer-lt-PLACES : goal.returns-then-answer-lt-PLACES
+returns-then-answer-lt-PLACES c = (short c.args.answer.now (few (goal.at.returns-then-answer-lt-PLACES c).Then-answer-lt-PLACES), (refl, refl))
+
+pub returns : goal.returns
+returns c =
+    let room = c.args.answer.now in (
+      roomy_yes room (enough (goal.at.returns c).Else-answer-lt-PLACES),
+      record {
+        outcome = c.plan.result;
+        answers = c.plan.ensures;
+        numbers = c.put.ensures ∙ ap (answered room) c.plan_numbers-numbers.ensures;
+      },
+    )

@@ -1,0 +1,48 @@
+-- The side of the step lowers nothing; or it does, and the checks back from it may follow.
+use mathlib.Core.Path.{sym, ap, ◌∙◌}
+use borrow.Author.Rules.{rules}
+use native.Mathlib.Numerals.{add-one}
+use native.Mathlib.Omega.{arith}
+use Prim.Native.Nat.{◌%◌}
+use Rattle.constraints.specs.Pieces.{following_of}
+use Rattle.last_resets.specs.Walking.{following_mod}
+use Rattle.ways.specs.Forth.{going_placed}
+use Rattle.latest.specs.Ascent.{upper_able, stepped_quiet, stepped_hit, back_able, stepped_mended}
+use Rattle.latest.proofs.ascend_step.Goals as goal
+
+pub bound_side-lowest-requires : goal.bound_side-lowest-requires
+bound_side-lowest-requires c =
+    (going_placed _ _ _ _ _ _ _ c.requires.1 c.requires.3 c.requires.2, upper_able _ _ _ _ _ _ c.args.i c.args.s c.requires.2 c.requires.3 c.args.hit _ c.requires.4)
+
+pub returns-then-lowest-ge-NEVER : goal.returns-then-lowest-ge-NEVER
+returns-then-lowest-ge-NEVER c =
+    stepped_quiet _ _ _ _ _ _ c.args.i c.args.s c.requires.2 c.requires.3 c.args.hit _ c.requires.4 _ _ _ c.requires.4.few c.bound_side-lowest.ensures c.if-lowest-ge-NEVER.true
+
+pub returns-then-left-eq0 : goal.returns-then-left-eq0
+returns-then-left-eq0 c =
+    stepped_hit _ _ _ _ _ _ c.args.i c.args.s c.requires.2 c.requires.3 c.args.hit _ c.requires.4 _ _ _ c.requires.4.few c.bound_side-lowest.ensures (omega (arith, c.if-lowest-ge-NEVER.false))
+
+pub following-after-requires : goal.following-after-requires
+following-after-requires c = let b = c in (going_placed _ _ _ _ _ _ _ c.requires.1 c.requires.3 c.requires.2).step
+
+pub descend-next-requires : goal.descend-next-requires
+descend-next-requires c =
+    let b = c in (
+      c.requires.0,
+      omega (arith, c.requires.2),
+      c.following-after.ensures
+          ∙ ap (λ n. following_of n c.args.steps) c.requires.3
+          ∙ following_mod c.args.i c.args.steps c.requires.0.some
+          ∙ ap (λ n. n % c.args.steps) (sym (add-one c.args.i)),
+      back_able _ _ _ _ _ _ c.args.i c.args.s c.requires.2 c.requires.3 c.args.hit _ c.requires.4 _ _ _ c.requires.4.few c.bound_side-lowest.ensures,
+    )
+
+pub overflow_add-i-3 : goal.overflow_add-i-3
+overflow_add-i-3 c = let b = c in omega (arith, c.requires.2, c.requires.0.few)
+
+pub overflow_sub-i : goal.overflow_sub-i
+overflow_sub-i c = omega (arith, c.descend-next.ensures.bottom)
+
+pub returns : goal.returns
+returns c =
+    stepped_mended _ _ _ _ _ _ c.args.i c.args.s c.requires.2 c.requires.3 c.args.hit _ c.requires.4 _ _ _ c.requires.4.few c.bound_side-lowest.ensures (omega (arith, c.if-lowest-ge-NEVER.false)) _ _ _ c.descend-next.ensures

@@ -1,0 +1,18 @@
+-- The invariant: the first k places are the first k vertices of the walk, which has not come round before.
+use mathlib.Core.Path.{◌≡◌, refl, sym, ap, ◌∙◌, subst}
+use Prim.Native.Nat.{ℕ, ◌-◌, ◌≤◌, ◌<◌}
+use native.Mathlib.Numerals.{add-one}
+use lib.ListN.{length, length-set}
+use Rattle.paths.specs.Walk.{iter, Ring, ring_more, ring_end}
+use Rattle.basics.specs.Places.{at, written, written_none, written_more, written_over}
+use native.Mathlib.Omega.{arith}
+use Rattle.paths.proofs.write_cycle.Given as goal
+
+abbrev pub invariant-loop-x : goal.invariant-loop-x
+invariant-loop-x l =
+    (0 < l.k) × (length l.out ≡ length l.initial.out) × (l.x ≡ iter (at l.parent) l.k l.u)
+    × (l.out ≡ written (λ j. iter (at l.parent) j l.u) l.k l.initial.out)
+    × ((m : ℕ) → Ring (at l.parent) l.u m → l.k ≤ m)
+
+abbrev pub decreases-loop-x : goal.decreases-loop-x
+decreases-loop-x l = length l.out - l.k

@@ -1,0 +1,4 @@
+pub mod FirstHolds
+pub mod Plans
+pub mod SecondHolds
+pub mod ThirdHolds

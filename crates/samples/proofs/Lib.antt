@@ -1,0 +1,4 @@
+pub mod Counted
+pub mod Plans
+pub mod Claim
+pub mod TwoClocksFollow

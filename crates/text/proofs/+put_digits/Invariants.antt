@@ -1,0 +1,5 @@
+-- The measure: the number of digits asked for.
+use Rattle.text.proofs.+put_digits.Given as goal
+
+abbrev pub decreases-put_digits : goal.decreases-put_digits
+decreases-put_digits l = l.n

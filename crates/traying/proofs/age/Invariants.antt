@@ -1,0 +1,22 @@
+-- `traying::age` meets its contract: the readings before have aged.
+use mathlib.Core.Path.{◌≡◌}
+use mathlib.Core.Bool.{cond}
+use Prim.Native.Nat.{ℕ, ◌-◌}
+use lib.Dec.{ltb}
+use lib.ListN.{length}
+use Rattle.basics.specs.Mapped.{MappedTo, mapped_none, mapped_more, mapped_all}
+use Rattle.ticks.specs.Ticks.{later_of}
+use Rattle.scans.specs.Scan.{aged}
+use borrow.Author.Rules.{rules}
+use native.Mathlib.Omega.{arith}
+use Rattle.traying.proofs.age.Given as goal
+
+-- the reading of the clock at a place
+abbrev pub aging : ℕ → ℕ → ℕ → ℕ → ℕ
+aging clocks ticks i x = cond (ltb i clocks) (later_of x ticks) x
+
+abbrev pub invariant-loop-i : goal.invariant-loop-i
+invariant-loop-i l = MappedTo (aging l.clocks l.ticks) l.initial.out l.i l.out
+
+abbrev pub decreases-loop-i : goal.decreases-loop-i
+decreases-loop-i l = 6 - l.i

@@ -1,0 +1,21 @@
+-- `traying::clear` meets its contract: the resets of the clocks before have taken place.
+use mathlib.Core.Path.{◌≡◌}
+use mathlib.Core.Bool.{Bool, false, cond}
+use mathlib.Core.List.{List}
+use Prim.Native.Nat.{ℕ, ◌+◌, ◌-◌, ◌*◌}
+use lib.ListN.{length, get_or}
+use Rattle.basics.specs.Mapped.{MappedTo, mapped_none, mapped_more, mapped_all}
+use Rattle.traying.specs.Moved.{cleared_at}
+use borrow.Author.Rules.{rules}
+use native.Mathlib.Omega.{arith}
+use Rattle.traying.proofs.clear.Given as goal
+
+-- the reading of the clock at a place
+abbrev pub clearing : List Bool → ℕ → ℕ → ℕ → ℕ
+clearing resets i j x = cond (get_or resets (7 * i + j + 1) false) 0 x
+
+abbrev pub invariant-loop-j : goal.invariant-loop-j
+invariant-loop-j l = MappedTo (clearing l.resets l.i) l.initial.out l.j l.out
+
+abbrev pub decreases-loop-j : goal.decreases-loop-j
+decreases-loop-j l = 6 - l.j
