@@ -90,6 +90,7 @@ pub fn take_head(place: usize, n: usize) -> Verdict
 }
 
 // A guard.
+#[tactic(auto, unfolding(crate::specs::Rules::guarded))]
 pub fn take_guard(t: Tally, place: usize, clock: usize, relation: usize, constant: usize) -> Verdict
     ensures { result ≡ guarded t place clock relation constant }
 {
@@ -116,6 +117,7 @@ pub fn take_guard(t: Tally, place: usize, clock: usize, relation: usize, constan
 }
 
 // A reset of a clock.
+#[tactic(auto, unfolding(crate::specs::Rules::cleared))]
 pub fn take_reset(t: Tally, place: usize, clock: usize) -> Verdict
     ensures { result ≡ cleared t place clock }
 {

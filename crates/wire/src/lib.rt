@@ -84,6 +84,7 @@ fn body_whole(bytes: &[u8], at: usize, k: usize) -> bool
 }
 
 // The record of a kind at a place.
+#[tactic(auto, using(crate::proofs::Bytes::body_within), unfolding(crate::specs::Reading::judge_of))]
 fn judge_kind(bytes: &[u8], at: usize, k: usize, t: Tally) -> Verdict
     requires { (at < length bytes.now) × (length bytes.now ≤ 4096) }
     ensures { result ≡ judge_of t (record_at at k (drop (at + 1) bytes.now)) }

@@ -3,14 +3,13 @@ use mathlib.Core.Path.{sym, ◌∙◌}
 use mathlib.Core.Logic.{◌⊎◌}
 use Prim.Native.Nat.{◌+◌, ◌*◌, ◌≤◌, ◌<◌}
 use native.Mathlib.Omega.{arith}
-use borrow.Author.Rules.{rules}
 use borrow.Author.Tests.{leb-true, leb-false, not-true, not-false}
 use Rattle.asking.specs.Admitted.{range_true, range_false}
 use Rattle.asking.specs.Admitted.{admit_rounds, admit_times, admit_starts, admit_loop, admit_all}
 use Rattle.asking.proofs.admit.Goals as goal
 use Rattle.asking.proofs.admit.Goals.{Else-not-in_range, Start}
 
--- ---- what each test that is past says
+-- ---- what the first test says once it is past
 module _ (c : Else-not-in_range) where
   abbrev asked : Start
   asked = (goal.at.Else-not-in_range c).Start
@@ -32,7 +31,6 @@ overflow_mul-total c = record { fits = omega (arith, (ranged (goal.at.overflow_m
 
 pub returns-then-times-total : goal.returns-then-times-total
 returns-then-times-total c =
-    let e = c in
     let a = (asked (goal.at.returns-then-times-total c).Else-not-in_range).args in
     let short : a.times < a.k * a.steps = omega (arith, c.if-times-total.true) in
     c.refuse-then-times-total.ensures
@@ -41,7 +39,6 @@ returns-then-times-total c =
 
 pub returns-then-starts-clocks : goal.returns-then-starts-clocks
 returns-then-starts-clocks c =
-    let e = c in
     let a = (asked (goal.at.returns-then-starts-clocks c).Else-not-in_range).args in
     let timed : a.k * a.steps ≤ a.times = omega arith in
     let short : a.starts < a.clocks = omega (arith, c.if-starts-clocks.true) in
@@ -55,8 +52,6 @@ loop_fits-requires c = (ranged (goal.at.loop_fits-requires c).Else-not-in_range)
 
 pub returns-then-not-loop_fits : goal.returns-then-not-loop_fits
 returns-then-not-loop_fits c =
-    let s = c in
-    let e = c in
     let a = (asked (goal.at.returns-then-not-loop_fits c).Else-not-in_range).args in
     let timed : a.k * a.steps ≤ a.times = omega arith in
     let started : a.clocks ≤ a.starts = omega arith in
@@ -69,8 +64,6 @@ returns-then-not-loop_fits c =
 
 pub returns : goal.returns
 returns c =
-    let s = c in
-    let e = c in
     let a = (asked (goal.at.returns c).Else-not-in_range).args in
     let timed : a.k * a.steps ≤ a.times = omega arith in
     let started : a.clocks ≤ a.starts = omega arith in

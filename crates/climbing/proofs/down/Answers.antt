@@ -1,9 +1,5 @@
-use Rattle.climbing.specs.Ways.{Down, half_power}
-use Rattle.effects.specs.Starts.{starts_for}
-use Rattle.table.specs.Step.{Step}
-use lib.ListN.{length}
-use Prim.Native.Nat.{◌+◌, ◌-◌, ◌^◌, ◌≤◌}
-use mathlib.Core.List.{List}
+use Rattle.climbing.specs.Ways.{half_power}
+use Prim.Native.Nat.{◌+◌, ◌-◌}
 use mathlib.Core.Path.{◌≡◌}
 use borrow.Author.Rules.{rules}
 use native.Mathlib.Omega.{arith}

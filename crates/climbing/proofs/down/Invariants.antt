@@ -1,13 +1,11 @@
 -- `climbing::down` meets its contract. What is known at place i leads to what is known below it; i falls.
-use Rattle.climbing.specs.Ways.{Down, half_power}
+use Rattle.climbing.specs.Ways.{Down}
 use Rattle.effects.specs.Starts.{starts_for}
 use Rattle.table.specs.Step.{Step}
 use lib.ListN.{length}
-use Prim.Native.Nat.{◌+◌, ◌-◌, ◌^◌, ◌≤◌}
+use Prim.Native.Nat.{◌^◌, ◌≤◌}
 use mathlib.Core.List.{List}
 use mathlib.Core.Path.{◌≡◌}
-use borrow.Author.Rules.{rules}
-use native.Mathlib.Omega.{arith}
 use Rattle.climbing.proofs.down.Given as goal
 
 abbrev pub invariant-loop-i : goal.invariant-loop-i

@@ -1,6 +1,5 @@
-use Rattle.climbing.specs.LeftPart.{SameLeft, left_none, left_more, left_all, left_not}
+use Rattle.climbing.specs.LeftPart.{left_none, left_more, left_all, left_not}
 use borrow.Author.Tests.{not-true, not-false}
-use Prim.Native.Nat.{◌*◌, ◌-◌, ◌≤◌}
 use mathlib.Core.Path.{◌≡◌}
 use borrow.Author.Rules.{rules}
 use native.Mathlib.Omega.{arith}

@@ -1,10 +1,6 @@
 -- `climbing::same_left` meets its contract: the rows before r are the same.
-use Rattle.climbing.specs.LeftPart.{SameLeft, left_none, left_more, left_all, left_not}
-use borrow.Author.Tests.{not-true, not-false}
+use Rattle.climbing.specs.LeftPart.{SameLeft}
 use Prim.Native.Nat.{◌*◌, ◌-◌, ◌≤◌}
-use mathlib.Core.Path.{◌≡◌}
-use borrow.Author.Rules.{rules}
-use native.Mathlib.Omega.{arith}
 use Rattle.climbing.proofs.same_left.Given as goal
 
 abbrev pub invariant-loop-r : goal.invariant-loop-r

@@ -1,5 +1,4 @@
-use Rattle.climbing.specs.LeftPart.{SameLine, line_none, line_more, line_all, line_not}
-use Prim.Native.Nat.{◌-◌, ◌≤◌}
+use Rattle.climbing.specs.LeftPart.{line_none, line_more, line_all, line_not}
 use mathlib.Core.Path.{◌≡◌}
 use borrow.Author.Rules.{rules}
 use native.Mathlib.Omega.{arith}

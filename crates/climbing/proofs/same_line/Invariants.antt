@@ -1,9 +1,6 @@
 -- `climbing::same_line` meets its contract: the codes before c are the same.
-use Rattle.climbing.specs.LeftPart.{SameLine, line_none, line_more, line_all, line_not}
+use Rattle.climbing.specs.LeftPart.{SameLine}
 use Prim.Native.Nat.{◌-◌, ◌≤◌}
-use mathlib.Core.Path.{◌≡◌}
-use borrow.Author.Rules.{rules}
-use native.Mathlib.Omega.{arith}
 use Rattle.climbing.proofs.same_line.Given as goal
 
 abbrev pub invariant-loop-c : goal.invariant-loop-c

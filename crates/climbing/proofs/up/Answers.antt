@@ -1,13 +1,8 @@
 use Rattle.climbing.specs.Ways.{up_limit, up_joinable, up_stuck, up_runs, up_settled, up_effect, up_refused, up_more}
 use Rattle.climbing.specs.Ways.{climbs_top, climbs_endless, double_power}
-use Rattle.climbing.specs.Climbing.{Reached}
 use Rattle.admitting.specs.Grid.{cells_lie}
-use Rattle.effects.specs.Starts.{starts_for}
-use Rattle.table.specs.Step.{Step}
+use mathlib.Core.Bool.{true}
 use borrow.Author.Tests.{not-true, not-false}
-use lib.ListN.{length}
-use Prim.Native.Nat.{◌-◌, ◌^◌, ◌≤◌}
-use mathlib.Core.List.{List}
 use mathlib.Core.Path.{◌≡◌, refl}
 use borrow.Author.Rules.{rules}
 use native.Mathlib.Omega.{arith}

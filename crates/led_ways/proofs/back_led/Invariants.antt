@@ -1,15 +1,10 @@
 -- The invariant: the demands of the first i steps are left, and s is the step of the round that step i is.
-use mathlib.Core.Path.{◌≡◌, sym}
-use Prim.Native.Nat.{◌-◌, ◌%◌, ◌≤◌}
+use mathlib.Core.Path.{◌≡◌}
+use Prim.Native.Nat.{◌%◌, ◌≤◌}
 use Rattle.leads.specs.Leads.{led_by}
 use Rattle.sweeps.specs.Order.{back_of}
 use Rattle.paths.specs.State.{state}
-use Rattle.checks.specs.Turns.{Turn, turn_first, turn_size}
-use Rattle.ways.specs.Forth.{going_placed}
-use Rattle.ways.specs.Back.{step_back, going_led}
-use Rattle.led_ways.specs.Back.{upper_able, leads_able, back_next, back_last}
-use borrow.Author.Rules.{rules}
-use native.Mathlib.Omega.{arith}
+use Rattle.checks.specs.Turns.{Turn}
 use Rattle.led_ways.proofs.back_led.Given as goal
 
 abbrev pub invariant-loop-i : goal.invariant-loop-i

@@ -1,10 +1,7 @@
 use mathlib.Core.Path.{sym}
-use borrow.Author.Rules.{rules}
 use native.Mathlib.Nat.{mod-eq_of_lt}
 use native.Mathlib.Omega.{arith}
-use Prim.Native.Nat.{◌-◌}
-use Rattle.paths.specs.State.{state}
-use Rattle.led_ways.specs.Home.{Homeward, homeward_first, homeward_went, homeward_size, homeward_able, homeward_next}
+use Rattle.led_ways.specs.Home.{homeward_first, homeward_went, homeward_able, homeward_next}
 use Rattle.led_ways.proofs.home_led.Goals as goal
 use Rattle.led_ways.proofs.home_led.Goals.{After-led_step-come, At-loop-i, Start}
 

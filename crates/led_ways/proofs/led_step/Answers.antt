@@ -1,5 +1,4 @@
 -- The order demand of the step, its guards from below and from above, and those between two clocks, one after the other.
-use borrow.Author.Rules.{rules}
 use native.Mathlib.Omega.{arith}
 use Rattle.ways.specs.Forth.{going_placed}
 use Rattle.ways.specs.Back.{going_led}

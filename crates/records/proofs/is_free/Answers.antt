@@ -1,5 +1,4 @@
 -- `records::is_free` meets its contract: a shift to the right divides by a power of two.
-use borrow.Author.Rules.{rules}
 use mathlib.Core.Path.{refl}
 use Rattle.records.specs.Rules.{is_free}
 use Rattle.records.proofs.is_free.Goals as goal

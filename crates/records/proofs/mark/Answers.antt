@@ -1,5 +1,4 @@
 -- `records::mark` meets its contract: one shifted to the left is a power of two.
-use borrow.Author.Rules.{rules}
 use mathlib.Core.Path.{ap}
 use Prim.Native.Nat.{◌%◌}
 use native.Mathlib.Nat.{mod-lt}

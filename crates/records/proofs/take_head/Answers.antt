@@ -1,5 +1,4 @@
 -- `records::take_head` meets its contract: the tests come in the definition's order.
-use borrow.Author.Rules.{rules}
 use mathlib.Core.Path.{◌≡◌, sym, ◌∙◌}
 use mathlib.Core.Bool.{true, false}
 use borrow.Author.Tests.{not-true, not-false}

@@ -1,5 +1,4 @@
 -- `records::take_step` meets its contract: the tests come in the definition's order.
-use borrow.Author.Rules.{rules}
 use native.Mathlib.Omega.{arith}
 use borrow.Author.Tests.{lt-ltb, le-ltb}
 use Rattle.records.specs.Rules.{finished}

@@ -3,7 +3,6 @@ use mathlib.Core.Path.{sym, ◌∙◌}
 use mathlib.Core.Bool.{true, false}
 use borrow.Author.Tests.{not-true, not-false}
 use Rattle.scans.specs.Held.{fits_by}
-use borrow.Author.Rules.{rules}
 use Rattle.scans.proofs.can_go_on.Goals as goal
 
 pub returns-then-not-between : goal.returns-then-not-between

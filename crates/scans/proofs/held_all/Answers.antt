@@ -1,10 +1,6 @@
-use mathlib.Core.Path.{◌≡◌, sym}
-use mathlib.Core.Bool.{true}
-use Prim.Native.Nat.{◌-◌, ◌≤◌}
-use Rattle.scans.specs.Scan.{held_all}
+use mathlib.Core.Path.{sym}
 use Rattle.scans.specs.Held.{held_none, held_more, held_not, held_count}
 use native.Mathlib.Omega.{arith}
-use borrow.Author.Rules.{rules}
 use Rattle.scans.proofs.held_all.Goals as goal
 
 pub loop-i-init : goal.loop-i-init

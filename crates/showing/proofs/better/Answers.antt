@@ -1,6 +1,5 @@
 -- `showing::better` meets its contract, by the cases of the span. Assumes nothing.
 use mathlib.Core.Path.{subst}
-use borrow.Author.Rules.{rules}
 use Rattle.window.specs.Window.{Small}
 use Rattle.showing.proofs.better.Goals as goal
 

@@ -1,5 +1,4 @@
 -- `showing::choice_of` meets its contract, by its test. Assumes nothing.
-use borrow.Author.Rules.{rules}
 use Rattle.showing.proofs.choice_of.Goals as goal
 
 pub returns-then-found : goal.returns-then-found

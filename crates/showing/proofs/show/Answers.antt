@@ -1,10 +1,8 @@
 use mathlib.Core.Path.{◌≡◌, ap, ◌∙◌}
-use Prim.Native.Nat.{◌-◌, ◌≤◌}
 use native.Mathlib.Omega.{arith}
-use borrow.Author.Rules.{rules}
 use Rattle.window.specs.Window.{window_of}
 use Rattle.showing.specs.Shown.{window_at}
-use Rattle.showing.specs.Rooms.{row_small, Filled, filled_none, filled_more}
+use Rattle.showing.specs.Rooms.{row_small, filled_none, filled_more}
 use Rattle.showing.proofs.show.Goals as goal
 
 pub loop-i-init : goal.loop-i-init

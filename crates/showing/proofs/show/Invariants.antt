@@ -1,11 +1,7 @@
 -- `showing::show` meets its contract. The invariant: the first i windows stand in both rooms. Assumes nothing.
-use mathlib.Core.Path.{◌≡◌, ap, ◌∙◌}
 use Prim.Native.Nat.{◌-◌, ◌≤◌}
-use native.Mathlib.Omega.{arith}
-use borrow.Author.Rules.{rules}
-use Rattle.window.specs.Window.{window_of}
 use Rattle.showing.specs.Shown.{window_at}
-use Rattle.showing.specs.Rooms.{row_small, Filled, filled_none, filled_more}
+use Rattle.showing.specs.Rooms.{Filled}
 use Rattle.showing.proofs.show.Given as goal
 
 abbrev pub invariant-loop-i : goal.invariant-loop-i

@@ -1,10 +1,7 @@
 use mathlib.Core.Path.{◌≡◌, refl}
-use Prim.Native.Nat.{ℕ, ◌-◌, ◌≤◌}
 use native.Mathlib.Omega.{arith}
-use borrow.Author.Rules.{rules}
-use Rattle.window.specs.declared.Window.{Window}
 use Rattle.window.specs.declared.Window.TheVariants.{Absent}
-use Rattle.showing.specs.Rooms.{Filled, filled_none, filled_more}
+use Rattle.showing.specs.Rooms.{filled_none, filled_more}
 use Rattle.showing.proofs.show_absent.Invariants.{windows}
 use Rattle.showing.proofs.show_absent.Goals as goal
 

@@ -1,11 +1,8 @@
 -- `showing::show_absent` meets its contract. The invariant: the first i windows stand in both rooms. Assumes nothing.
-use mathlib.Core.Path.{◌≡◌, refl}
 use Prim.Native.Nat.{ℕ, ◌-◌, ◌≤◌}
-use native.Mathlib.Omega.{arith}
-use borrow.Author.Rules.{rules}
 use Rattle.window.specs.declared.Window.{Window}
 use Rattle.window.specs.declared.Window.TheVariants.{Absent}
-use Rattle.showing.specs.Rooms.{Filled, filled_none, filled_more}
+use Rattle.showing.specs.Rooms.{Filled}
 use Rattle.showing.proofs.show_absent.Given as goal
 
 abbrev pub windows : ℕ → Window

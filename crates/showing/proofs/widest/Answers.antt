@@ -1,10 +1,8 @@
 use mathlib.Core.Path.{◌≡◌, refl}
-use Prim.Native.Nat.{◌-◌, ◌≤◌}
 use native.Mathlib.Omega.{arith}
-use borrow.Author.Rules.{rules}
 use Rattle.showing.specs.Shown.{span_at}
 use Rattle.showing.specs.Rooms.{row_small}
-use Rattle.showing.specs.Best.{Kept, kept_none, kept_more, chosen_kept}
+use Rattle.showing.specs.Best.{kept_none, kept_more, chosen_kept}
 use Rattle.showing.proofs.widest.Goals as goal
 
 pub loop-i-init : goal.loop-i-init

@@ -1,10 +1,6 @@
 use mathlib.Core.Path.{◌≡◌}
-use mathlib.Core.Bool.{cond}
-use Prim.Native.Nat.{ℕ, ◌-◌}
-use lib.Dec.{ltb}
 use lib.ListN.{length}
-use Rattle.basics.specs.Mapped.{MappedTo, mapped_none, mapped_more, mapped_all}
-use Rattle.ticks.specs.Ticks.{later_of}
+use Rattle.basics.specs.Mapped.{mapped_none, mapped_more, mapped_all}
 use Rattle.scans.specs.Scan.{aged}
 use borrow.Author.Rules.{rules}
 use native.Mathlib.Omega.{arith}

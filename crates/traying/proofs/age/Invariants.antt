@@ -1,14 +1,9 @@
 -- `traying::age` meets its contract: the readings before have aged.
-use mathlib.Core.Path.{◌≡◌}
 use mathlib.Core.Bool.{cond}
 use Prim.Native.Nat.{ℕ, ◌-◌}
 use lib.Dec.{ltb}
-use lib.ListN.{length}
-use Rattle.basics.specs.Mapped.{MappedTo, mapped_none, mapped_more, mapped_all}
+use Rattle.basics.specs.Mapped.{MappedTo}
 use Rattle.ticks.specs.Ticks.{later_of}
-use Rattle.scans.specs.Scan.{aged}
-use borrow.Author.Rules.{rules}
-use native.Mathlib.Omega.{arith}
 use Rattle.traying.proofs.age.Given as goal
 
 -- the reading of the clock at a place

@@ -3,7 +3,6 @@ use mathlib.Core.Path.{ap, sym, ◌∙◌}
 use mathlib.Core.Bool.{cond}
 use borrow.Author.Tests.{lt-ltb, le-ltb}
 use Rattle.ticks.specs.Ticks.{later_of}
-use borrow.Author.Rules.{rules}
 use Rattle.traying.proofs.age_one.Goals as goal
 
 pub returns-then-i-clocks : goal.returns-then-i-clocks

@@ -1,9 +1,6 @@
 use mathlib.Core.Path.{◌≡◌}
-use mathlib.Core.Bool.{Bool, false, cond}
-use mathlib.Core.List.{List}
-use Prim.Native.Nat.{ℕ, ◌+◌, ◌-◌, ◌*◌}
-use lib.ListN.{length, get_or}
-use Rattle.basics.specs.Mapped.{MappedTo, mapped_none, mapped_more, mapped_all}
+use lib.ListN.{length}
+use Rattle.basics.specs.Mapped.{mapped_none, mapped_more, mapped_all}
 use Rattle.traying.specs.Moved.{cleared_at}
 use borrow.Author.Rules.{rules}
 use native.Mathlib.Omega.{arith}

@@ -1,13 +1,9 @@
 -- `traying::clear` meets its contract: the resets of the clocks before have taken place.
-use mathlib.Core.Path.{◌≡◌}
 use mathlib.Core.Bool.{Bool, false, cond}
 use mathlib.Core.List.{List}
 use Prim.Native.Nat.{ℕ, ◌+◌, ◌-◌, ◌*◌}
-use lib.ListN.{length, get_or}
-use Rattle.basics.specs.Mapped.{MappedTo, mapped_none, mapped_more, mapped_all}
-use Rattle.traying.specs.Moved.{cleared_at}
-use borrow.Author.Rules.{rules}
-use native.Mathlib.Omega.{arith}
+use lib.ListN.{get_or}
+use Rattle.basics.specs.Mapped.{MappedTo}
 use Rattle.traying.proofs.clear.Given as goal
 
 -- the reading of the clock at a place

@@ -1,6 +1,6 @@
 use mathlib.Core.Path.{◌≡◌, ap, ◌∙◌}
 use Prim.Native.Nat.{ℕ, ◌-◌, ◌≤◌}
-use lib.ListN.{length, get_or}
+use lib.ListN.{get_or}
 use Rattle.table.specs.declared.Table.{Table}
 use Rattle.table.specs.Step.{Good, steps_of}
 use Rattle.runs.specs.Demand.{Clocks}
@@ -12,7 +12,7 @@ use Rattle.ranges.specs.declared.Ranges.{Ranges}
 use Rattle.ranges.specs.Allowed.{ranges_of, inside, first_outside, outside_few}
 use Rattle.traying.specs.Moved.{moved_on}
 use Rattle.traying.specs.Scans.{scan_asked, scan_number, scan_moved}
-use Rattle.traying.specs.Given.{GivenTo, given_none, given_more, given_all}
+use Rattle.traying.specs.Given.{given_none, given_more, given_all}
 use borrow.Author.Rules.{rules}
 use native.Mathlib.Omega.{arith}
 use Rattle.traying.proofs.give.Goals as goal

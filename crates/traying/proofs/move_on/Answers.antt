@@ -1,7 +1,6 @@
 -- `traying::move_on` meets its contract, by its test.
 use mathlib.Core.Path.{◌∙◌}
 use Rattle.traying.specs.Moved.{moved_none, moved_one}
-use borrow.Author.Rules.{rules}
 use Rattle.traying.proofs.move_on.Goals as goal
 
 pub returns-then-failing-ne0 : goal.returns-then-failing-ne0

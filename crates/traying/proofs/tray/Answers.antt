@@ -1,7 +1,6 @@
 -- `traying::tray` meets its contract: the reader's refusal, or the tray given to the table that the bytes write down.
 use Rattle.wire.specs.Records.{Bytes}
 use Rattle.traying.specs.Asking.{told_refused, accepted_good, accepted_clocks, told_given}
-use borrow.Author.Rules.{rules}
 use native.Mathlib.Omega.{arith}
 use Rattle.traying.proofs.tray.Goals as goal
 use Rattle.traying.proofs.tray.Goals.{After-shared_slice_known-1}

@@ -1,5 +1,4 @@
 -- `wire::body_whole` meets its contract: a body is cut where fewer bytes are left than its kind says.
-use borrow.Author.Rules.{rules}
 use mathlib.Core.Path.{sym}
 use native.Mathlib.Omega.{arith}
 use Rattle.records.specs.Rules.{body_size}

@@ -1,7 +1,6 @@
 -- `wire::byte_in` meets its contract: a byte is below 256.
 use mathlib.Core.Path.{refl}
 use native.Mathlib.Omega.{arith}
-use borrow.Author.Rules.{rules}
 use Rattle.wire.proofs.byte_in.Goals as goal
 
 pub returns : goal.returns

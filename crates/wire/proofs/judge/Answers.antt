@@ -1,5 +1,4 @@
 -- `wire::judge` meets its contract: the kind is the byte at the place.
-use borrow.Author.Rules.{rules}
 use mathlib.Core.Path.{◌≡◌, sym, ap, ◌∙◌}
 use mathlib.Core.List.{List}
 use Prim.Native.Nat.{ℕ, ◌+◌}

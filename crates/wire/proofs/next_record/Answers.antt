@@ -1,5 +1,4 @@
 -- `wire::next_record` meets its contract.
-use borrow.Author.Rules.{rules}
 use mathlib.Core.Path.{ap, ◌∙◌}
 use Prim.Native.Nat.{◌+◌}
 use Rattle.records.specs.Rules.{body_size}

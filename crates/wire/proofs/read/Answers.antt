@@ -1,5 +1,4 @@
 -- `wire::read` meets its contract: too long bytes are refused, and others are taken record by record.
-use borrow.Author.Rules.{rules}
 use mathlib.Core.Path.{sym}
 use Rattle.wire.specs.Laws.{read_long}
 use Rattle.wire.proofs.read.Goals as goal

@@ -1,5 +1,4 @@
 -- `wire::read_guard` meets its contract: its bytes are those of the record at the place.
-use borrow.Author.Rules.{rules}
 use mathlib.Core.Path.{refl, ◌∙◌}
 use Prim.Native.Nat.{◌+◌, ◌*◌}
 use Rattle.records.specs.Rules.{guarded}

@@ -1,13 +1,12 @@
-use borrow.Author.Rules.{rules}
 use native.Mathlib.Omega.{arith}
 use mathlib.Core.Path.{◌≡◌, refl, sym, ap, ◌∙◌}
 use mathlib.Core.List.{List}
-use Prim.Native.Nat.{ℕ, ◌+◌, ◌≤◌, ◌-◌}
+use Prim.Native.Nat.{ℕ, ◌+◌}
 use lib.ListN.{length, get_or}
 use Rattle.records.specs.declared.Tally.{Tally}
 use Rattle.records.specs.Rules.{body_size}
 use Rattle.wire.specs.Records.{records_at}
-use Rattle.wire.specs.Reading.{check, read_of}
+use Rattle.wire.specs.Reading.{read_of}
 use Rattle.wire.specs.Laws.{onward, check_out, go_on, read_short}
 use Rattle.wire.proofs.read_records.Goals as goal
 use Rattle.wire.proofs.read_records.Goals.{After-judge-verdict}

@@ -1,16 +1,10 @@
 -- `wire::read_records` meets its contract: the answer due from the records left is that of the whole table. The measure is what is left
 -- of the bytes.
-use borrow.Author.Rules.{rules}
-use native.Mathlib.Omega.{arith}
-use mathlib.Core.Path.{◌≡◌, refl, sym, ap, ◌∙◌}
-use mathlib.Core.List.{List}
-use Prim.Native.Nat.{ℕ, ◌+◌, ◌≤◌, ◌-◌}
-use lib.ListN.{length, get_or}
-use Rattle.records.specs.declared.Tally.{Tally}
-use Rattle.records.specs.Rules.{body_size}
+use mathlib.Core.Path.{◌≡◌}
+use Prim.Native.Nat.{◌≤◌, ◌-◌}
+use lib.ListN.{length}
 use Rattle.wire.specs.Records.{records_at}
 use Rattle.wire.specs.Reading.{check, read_of}
-use Rattle.wire.specs.Laws.{onward, check_out, go_on, read_short}
 use Rattle.wire.proofs.read_records.Given as goal
 
 abbrev pub invariant-loop-at : goal.invariant-loop-at

@@ -1,5 +1,4 @@
 -- `wire::take_whole` meets its contract: each kind is judged as the definition says.
-use borrow.Author.Rules.{rules}
 use mathlib.Core.Path.{sym, ap, ◌∙◌}
 use Prim.Native.Nat.{◌+◌}
 use lib.ListN.{drop}
