@@ -5,5 +5,5 @@ pub mod Second
 pub mod Third
 -- the entries answer what is spoken of
 pub mod Entries
--- and the promises hold
+-- all refusals and rows (that the promises hold stands in proofs/)
 pub mod Rows

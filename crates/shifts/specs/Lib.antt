@@ -2,6 +2,6 @@
 pub mod Shift
 pub mod Sound
 pub mod Handed
--- and it holds
+-- what grows and what is held (that it holds stands in proofs/)
 pub mod Grown
 pub mod Held
