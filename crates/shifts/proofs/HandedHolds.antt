@@ -24,8 +24,8 @@ use Rattle.scans.specs.Going.{scan_judged, fits_scanned}
 use Rattle.trays.specs.declared.Outcome.TheVariants.{Counted, Refused}
 use Rattle.trays.specs.Tray.{verdicts_by, running_by, verdict_number, verdict_row, accepted_in}
 use Rattle.trays.specs.Answer.{outcome_of, running_of, verdicts_of, unless}
-use Rattle.trays.specs.Laws.{Told, accepted, turned, scanned_told, length_verdicts, running_keeps, verdicts_each}
-use Rattle.trays.specs.Laws.{outcome_many, outcome_short, outcome_counted, running_counted, verdicts_counted}
+use Rattle.trays.proofs.Laws.{Told, accepted, turned, scanned_told, length_verdicts, running_keeps, verdicts_each}
+use Rattle.trays.proofs.Laws.{outcome_many, outcome_short, outcome_counted, running_counted, verdicts_counted}
 use Rattle.shifts.specs.Shift.{Shift, begun, times_with, scan_at, gone_on, shift_from}
 use Rattle.shifts.specs.Sound.{Sound}
 use Rattle.shifts.specs.Handed.{Handed, single, tray, Fitting, times_given, times_in, times_accepted, counters_at, tray_on, handed_from, PromiseHanded}

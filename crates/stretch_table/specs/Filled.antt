@@ -16,7 +16,7 @@ use Rattle.decode.specs.Laws.{table_counted, table_refused}
 use Rattle.decode.specs.Represent.{Represents, filled_encoded}
 use Rattle.stretches.specs.Reading.{read_out}
 use Rattle.stretches.specs.Listing.{written_out}
-use Rattle.stretches.specs.Meaning.{accepted_counted}
+use Rattle.stretches.proofs.Meaning.{accepted_counted}
 use Rattle.write_out.specs.Plain.{plain_of, Accepted, plain_answer, plain_accepted, plain_read, plain_same}
 use Rattle.write_out.specs.Out.{out_part}
 

@@ -15,7 +15,5 @@ pub mod Whole
 -- exactly the bytes of sound items, within the limits when written out, are accepted
 pub mod Rest
 pub mod Accepted
-pub mod Encoded
 -- what they mean is a table without stretches; such tables are read as by a reader that knows none
-pub mod Meaning
 pub mod Plain

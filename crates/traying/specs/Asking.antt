@@ -24,7 +24,7 @@ use Rattle.trays.specs.declared.Outcome.TheVariants.{Counted, Refused}
 use Rattle.trays.specs.declared.Trayed.{Trayed}
 use Rattle.trays.specs.Tray.{verdicts_by, running_by, verdict_row, accepted_in}
 use Rattle.trays.specs.Answer.{admitted, outcome_by, outcome_of, unless, running_of, verdicts_of}
-use Rattle.trays.specs.Laws.{verdicts_same, running_same, admitted_not}
+use Rattle.trays.proofs.Laws.{verdicts_same, running_same, admitted_not}
 use Rattle.traying.specs.Given.{scan_by, outcome_in, Given}
 
 module _ (bytes : List ℕ) (r : Running) (counters room : List ℕ) (a : Read) (e : a ≡ read_of bytes) where

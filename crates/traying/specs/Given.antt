@@ -23,7 +23,7 @@ use Rattle.trays.specs.declared.Outcome.TheVariants.{Counted, Refused}
 use Rattle.trays.specs.declared.Trayed.{Trayed}
 use Rattle.trays.specs.Tray.{verdicts_by, running_by, verdict_number, verdict_row, accepted_in}
 use Rattle.trays.specs.Answer.{counted_by, unless}
-use Rattle.trays.specs.Laws.{Told, accepted, turned, scanned_told, length_verdicts, admitted_not, admitted_many, admitted_short, admitted_all}
+use Rattle.trays.proofs.Laws.{Told, accepted, turned, scanned_told, length_verdicts, admitted_not, admitted_many, admitted_short, admitted_all}
 
 -- what a table by value gives for one scan
 abbrev pub scan_by : Table → Running → ℕ → Scanned

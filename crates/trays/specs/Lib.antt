@@ -1,5 +1,5 @@
 -- what is defined
 pub mod Tray
 pub mod Answer
+
 -- and laws of it
-pub mod Laws

@@ -6,7 +6,8 @@ use Rattle.asking.specs.declared.Admission.{Admission}
 use Rattle.asking.specs.declared.Admission.TheVariants as admission
 use Rattle.asking.specs.Rounds.{clocks_of, rounds_in}
 use Rattle.window.specs.declared.Choice.{Choice}
-use Rattle.window.specs.Widest.{chosen_unique, chosen_same}
+use Rattle.window.specs.Widest.{chosen_same}
+use Rattle.window.proofs.OneWidest.{chosen_unique}
 use Rattle.plan.specs.Planned.{parts_in}
 use Rattle.windows.specs.Unique.{spanned_unique}
 use Rattle.widest.specs.declared.Answer.{Answer}

@@ -8,7 +8,7 @@ use Rattle.runs.specs.Demand.{starts_of, Exists}
 use Rattle.constraints.specs.Rounds.{length_rounds}
 use Rattle.constraints.specs.Sized.{Sized, parts_of, rounds_of, sized_moments}
 use Rattle.solving.specs.Solve.{Roomy}
-use Rattle.seconds.specs.Rounding.{seconds_nearest}
+use Rattle.seconds.proofs.Rounding.{seconds_nearest}
 use Rattle.window.specs.declared.Span.{Span}
 use Rattle.window.specs.declared.Span.TheVariants.{Closed, Open, Absent}
 use Rattle.window.specs.declared.Window.{Window}

@@ -14,7 +14,7 @@ use Rattle.stretches.specs.Tree.{Items, encode_items, expand, Sound, sound_none,
 use Rattle.stretches.specs.Laws.{out_counted}
 use Rattle.stretches.specs.Accepted.{Written, accepted_written}
 use Rattle.stretches.specs.Listing.{written_out}
-use Rattle.stretches.specs.Meaning.{written_out_lem, accepted_counted}
+use Rattle.stretches.proofs.Meaning.{written_out_lem, accepted_counted}
 use Rattle.write_out.specs.Plain.{plain_of, Accepted, plain_accepted}
 use Rattle.write_out.specs.Due.{bytes_of, plain_bytes, Often, often_none, often_step, often_stretch, ends_table, Due, Writes}
 

@@ -12,7 +12,7 @@ use Rattle.format.proofs.Accepted.{accepted_written}
 use Rattle.stretches.specs.Reading.{read_out}
 use Rattle.stretches.specs.Tree.{Items, none, step, items_on, encode_items, expand, Sound, sound_none, sound_step}
 use Rattle.stretches.specs.Listing.{written_out}
-use Rattle.stretches.specs.Meaning.{written_out_lem, means_plain}
+use Rattle.stretches.proofs.Meaning.{written_out_lem, means_plain}
 
 -- of refused bytes there is none
 abbrev pub of_answer : Read → List ℕ → List ℕ

@@ -8,7 +8,7 @@ use lib.Dec.{T, le→leb}
 use lib.IntN.{pos}
 use lib.Ieee.{Float, binary64, in_float}
 use Rattle.seconds.specs.Seconds.{Nearest}
-use Rattle.seconds.specs.Rounding.{divided, seconds_nearest}
+use Rattle.seconds.proofs.Rounding.{divided, seconds_nearest}
 use Rattle.seconds.proofs.seconds.Goals as goal
 
 -- a whole number up to 2 ^ 53 is cast without loss

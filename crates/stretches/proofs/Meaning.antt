@@ -15,7 +15,7 @@ use Rattle.format.proofs.Encoded as plain
 use Rattle.stretches.specs.Reading.{read_out}
 use Rattle.stretches.specs.Tree.{Items, none, step, stretch, items_on, encode_items, copies, expand, Sound, sound_none, sound_step, sound_stretch}
 use Rattle.stretches.specs.Listing.{Level, steps_out, written_out}
-use Rattle.stretches.specs.Encoded.{longest}
+use Rattle.stretches.proofs.Encoded.{longest}
 use Rattle.stretches.specs.Accepted.{Written, accepted_written}
 
 -- ---- the steps that the bytes of items mean are the items written out
