@@ -24,12 +24,8 @@ fn left_part(left: &mut [u64], cells: &[u64], base: usize, stride: usize, side: 
     requires { (length left.old ≡ 441) × Lies side base stride (length cells.now) }
     ensures { LeftTo side side base stride cells.now left.new }
 {
-    let mut from = base;
-    let mut r: usize = 0;
-    while r < side {
-        copy_line(left, cells, r * 21, from, side);
-        from += stride;
-        r += 1;
+    for r in 0..side {
+        copy_line(left, cells, r * 21, base + r * stride, side);
     }
 }
 
@@ -38,8 +34,7 @@ fn clock(left: &mut [u64], start: Start, j: usize)
     requires { (length left.old ≡ 441) × (0 < j) × (j ≤ 6) }
     ensures { left.new ≡ puts_of (starts_of start j) left.old }
 {
-    let partner = partner_of(start, 0, j);
-    match partner {
+    match partner_of(start, 0, j) {
         Partner::One(d) => put(left, d),
         Partner::None => {}
     }
@@ -50,10 +45,8 @@ fn clocks(left: &mut [u64], start: Start, side: usize)
     requires { (length left.old ≡ 441) × Side side }
     ensures { left.new ≡ puts_of (each (side - 1) (starts_of start)) left.old }
 {
-    let mut j = side - 1;
-    while 0 < j {
+    for j in (1..side).rev() {
         clock(left, start, j);
-        j -= 1;
     }
 }
 
@@ -72,8 +65,7 @@ pub fn admits(
     ensures { (σ : List Step) → EffectOf side base stride cells.now σ
         → (result ≡ true) ↔ Begins (starts_for side start) σ }
 {
-    let count = partners(start);
-    if count == 0 {
+    if partners(start) == 0 {
         return true;
     }
     left_part(left, cells, base, stride, side);

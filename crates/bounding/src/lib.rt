@@ -33,6 +33,7 @@ pub fn bound(d: Demand, late: &mut [u64], low: usize) -> usize
 }
 
 // The check of the demand of clock j's key at step i of `total`, if it has one.
+#[tactic(auto, using(crate::specs::Key::none_after, crate::specs::Key::some_able, crate::specs::Key::some_after))]
 fn bound_key(
     upper: bool,
     key: u64,
@@ -73,11 +74,9 @@ pub fn bound_side(
         ≡ after_of (side_of upper keys.now far.now total s i 1 clocks) (bounds late.old low) }
 {
     let mut lowest = low;
-    let mut j: usize = 1;
-    while j <= clocks {
+    for j in 1..clocks + 1 {
         let at = 7 * s + j;
         lowest = bound_key(upper, keys[at], far[at], total, i, j, late, lowest);
-        j += 1;
     }
     lowest
 }
@@ -100,6 +99,7 @@ fn bound_pair(g: Guard, constant: u64, z: usize, e: usize, late: &mut [u64], low
 }
 
 // The checks of a guard of the row at step i of `total`, which is step s of its round, if it has a second clock.
+#[tactic(auto, using(crate::specs::Lead::lead_skipped, crate::specs::Lead::lead_able, crate::specs::Lead::lead_after))]
 fn bound_lead(
     code: u64,
     far: &[usize],
@@ -139,12 +139,11 @@ pub fn bound_leads(
     ensures { bounds late.new result
         ≡ after_of (leads_at (led_by leads.now) far.now total s i) (bounds late.old low) }
 {
+    let first = leads[s] as usize;
     let end = leads[s + 1] as usize;
     let mut lowest = low;
-    let mut k = leads[s] as usize;
-    while k < end {
+    for k in first..end {
         lowest = bound_lead(leads[18 + k], far, total, s, i, late, lowest);
-        k += 1;
     }
     lowest
 }

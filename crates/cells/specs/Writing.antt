@@ -1,4 +1,5 @@
 -- Demands written to a row, one list after the other.
+use mathlib.Core.List.Memᴰ
 use Rattle.std.specs.Prelude.{◌≡◌, refl, List, [], ◌∷◌, ◌++◌, ℕ, suc, ◌+◌, ◌*◌, ◌≤◌, ℤ, length, drop}
 use Rattle.std.proofs.Common.{sym, ◌∙◌, ap, arith, length-append}
 use Rattle.std.proofs.lemmas.List.Edits.{sets, sets-eq}
@@ -59,6 +60,9 @@ wrote_one e f = record { stands = e; place = omega arith }
 
 pub wrote_long : {old row : List ℤ} {q p : ℕ} {ds : List Demand} → Wrote old q ds row p → length row ≡ length old
 wrote_long {old} {row} {q} {p} {ds} w = ap length w.stands ∙ length-sets old q (cells ds)
+
+pub fits_small : {row : List ℤ} {q : ℕ} {d : Demand} → Fits row q (d ∷ []) → Small d
+fits_small {d = d} f = f.small d (Memᴰ.head refl)
 
 -- the same demands, by another name
 pub fits_as : {row : List ℤ} {q : ℕ} {ds es : List Demand} → ds ≡ es → Fits row q es → Fits row q ds

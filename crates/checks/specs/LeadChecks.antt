@@ -1,7 +1,7 @@
 -- The checks of the demands of a guard between two clocks.
-use Rattle.std.specs.Prelude.{◌≡◌, refl, Bool, true, false, List, [], ◌∷◌, ◌++◌, ℕ}
+use Rattle.std.specs.Prelude.{◌≡◌, refl, Bool, true, false, [], ◌∷◌, ◌++◌, ℕ}
 use Rattle.std.proofs.Common.{sym, ap, subst, ◌∙◌}
-use Rattle.table.specs.Step.{up_of, down_of, up_plain, down_plain}
+use Rattle.table.specs.Step.{up_of, down_of}
 use Rattle.table.specs.declared.Guard.{Guard}
 use Rattle.table.specs.declared.Relation.{Relation}
 use Rattle.runs.specs.declared.Demand.{Demand}

@@ -1,10 +1,10 @@
 -- The demands of the guards between two clocks of one step, as the row tells them, guard by guard.
-use Rattle.std.specs.Prelude.{◌≡◌, refl, Bool, true, false, cond, List, [], ◌∷◌, ◌++◌, ℕ, zero, suc, ◌+◌, ◌*◌, ◌-◌, ◌/◌, ◌%◌, ◌≤◌, ◌<◌, eqb, length, get_or}
-use Rattle.std.proofs.Common.{sym, subst, ◌∙◌, append-nil, arith, mod-lt, eq-eqb, ne_eqb}
+use Rattle.std.specs.Prelude.{◌≡◌, refl, Bool, true, false, cond, List, [], ◌∷◌, ◌++◌, ℕ, suc, ◌+◌, ◌/◌, ◌%◌, ◌≤◌, ◌<◌, eqb, length, get_or}
+use Rattle.std.proofs.Common.{sym, ◌∙◌, append-nil, arith, mod-lt, eq-eqb, ne_eqb}
 use Rattle.std.proofs.Math.Path.{ap}
 use Rattle.std.proofs.Math.Numerals.{add-one}
 use Rattle.std.proofs.Math.Seq.{slice, slice-cons, slice_empty}
-use Rattle.table.specs.Step.{up_of, down_of, end_of, end_some, step_at}
+use Rattle.table.specs.Step.{up_of, down_of, end_some, step_at}
 use Rattle.table.specs.declared.Guard.{Guard}
 use Rattle.runs.specs.declared.Demand.{Demand}
 use Rattle.runs.specs.Demand.{guard_demands, guards_demands, demands_at}

@@ -1,6 +1,6 @@
 -- The checks of the guards between two clocks of one step, guard by guard.
-use Rattle.std.specs.Prelude.{◌≡◌, Bool, List, [], ℕ, ◌+◌, ◌*◌, ◌/◌, ◌%◌, ◌≤◌, ◌<◌, get_or}
-use Rattle.std.proofs.Common.{sym, ap, subst, ◌∙◌, arith}
+use Rattle.std.specs.Prelude.{◌≡◌, Bool, List, ℕ, ◌+◌, ◌/◌, ◌%◌, ◌<◌, get_or}
+use Rattle.std.proofs.Common.{sym, ap, subst, ◌∙◌}
 use Rattle.table.specs.Step.{up_of, down_of}
 use Rattle.table.specs.declared.Guard.{Guard}
 use Rattle.runs.specs.declared.Demand.{Demand}
@@ -8,8 +8,7 @@ use Rattle.runs.specs.Demand.{guard_demands}
 use Rattle.scaling.specs.Constants.{with_constant}
 use Rattle.leads.specs.Codes.{guard_at}
 use Rattle.leads.specs.Leads.{led_by}
-use Rattle.last_resets.specs.Distance.{last_of}
-use Rattle.sweeps.specs.Order.{cell, leads_at}
+use Rattle.sweeps.specs.Order.{leads_at}
 use Rattle.paths.specs.State.{State}
 use Rattle.checks.specs.Led.{lasts_at, lead_demands, lead_none, lead_some, Led, leads_from, leads_first, leads_more, leads_done}
 use Rattle.checks.specs.Checks.{Checkable, Checked, checked_none}

@@ -32,13 +32,6 @@ pub struct Sweep {
     pub stamp: u64,
 }
 
-// Whether one of the two holds.
-fn either(a: bool, b: bool) -> bool
-    ensures { result ≡ (a || b) }
-{
-    if a { true } else { b }
-}
-
 // A check of a demand, after checks that gave w.
 pub fn check(d: Demand, time: &mut [u64], parent: &mut [u64], stamp: &mut [u64], w: Sweep) -> Sweep
     requires { Checkable (d ∷ []) (state time.old parent.old stamp.old) w.stamp }
@@ -49,7 +42,7 @@ pub fn check(d: Demand, time: &mut [u64], parent: &mut [u64], stamp: &mut [u64],
     let gain = d.down + bit_of(d.strict);
     let up = relax(time, parent, stamp, d.from, d.to, gain, d.up, w.stamp);
     Sweep {
-        raised: either(w.raised, up),
+        raised: w.raised || up,
         stamp: w.stamp + 1,
     }
 }
@@ -178,12 +171,11 @@ pub fn check_leads(
         (state time.old parent.old stamp.old)
         (state time.new parent.new stamp.new) result.raised result.stamp }
 {
+    let first = leads[s] as usize;
     let end = leads[s + 1] as usize;
     let mut swept = w;
-    let mut k = leads[s] as usize;
-    while k < end {
+    for k in first..end {
         swept = check_lead(leads[18 + k], far, total, s, i, time, parent, stamp, swept);
-        k += 1;
     }
     swept
 }
@@ -211,13 +203,11 @@ pub fn check_side(
         (state time.new parent.new stamp.new) result.raised result.stamp }
 {
     let mut swept = w;
-    let mut j: usize = 1;
-    while j <= clocks {
+    for j in 1..=clocks {
         let at = 7 * s + j;
         swept = check_key(
             upper, keys[at], far[at], total, i, j, time, parent, stamp, swept,
         );
-        j += 1;
     }
     swept
 }

@@ -23,36 +23,17 @@ pub struct Top {
     pub power: u64,
 }
 
-// Whether `size` codes of the row from index `at` on are those of `out` from index `from` on.
-fn same_line(row: &[u64], out: &[u64], at: usize, from: usize, size: usize) -> bool
-    requires { (length row.now ≡ 4900) × (length out.now ≡ 441) × (at + size ≤ 4900) × (from + size ≤ 441) }
-    ensures { (result ≡ true) ↔ SameLine at from size row.now out.now }
-{
-    let mut c: usize = 0;
-    while c < size {
-        if row[at + c] != out[from + c] {
-            return false;
-        }
-        c += 1;
-    }
-    true
-}
-
 // Whether the left parts of the effect at a place and of the one in `out`, the bounds among their first `side` vertices, are
 // the same.
 fn same_left(row: &[u64], out: &[u64], place: usize, side: usize) -> bool
     requires { (length row.now ≡ 4900) × (length out.now ≡ 441) × (place < 25) × (side ≤ 7) }
     ensures { (result ≡ true) ↔ SameLeft side side (place * 196) row.now out.now }
 {
-    let mut r: usize = 0;
-    while r < side {
-        let same = same_line(row, out, place * 196 + r * 14, r * 21, side);
-        if !same {
-            return false;
-        }
-        r += 1;
-    }
-    true
+    (0..side).all(|r| {
+        let at = place * 196 + r * 14;
+        let from = r * 21;
+        row[at..at + side] == out[from..from + side]
+    })
 }
 
 // From the effect of one round, at place 0, doubled as far as runs from an allowed start exist and the left part still changes: that
@@ -62,15 +43,14 @@ pub fn up(row: &mut [u64], out: &mut [u64], left: &mut [u64], start: Start, side
         × ((τ : List Step) × Reached side (starts_for side start) τ 0 row.old) }
     ensures { Climbs side (starts_for side start) row.old row.new result.place result.settled result.power }
 {
-    let mut i: usize = 0;
     let mut power: u64 = 1;
-    while i < 24 {
+    for i in 0..24 {
         let twice = join(out, row, i, i, side);
         if !twice {
             return Top {
                 place: i,
                 settled: i,
-                power: power,
+                power,
             };
         }
         let same = same_left(row, out, i, side);
@@ -78,7 +58,7 @@ pub fn up(row: &mut [u64], out: &mut [u64], left: &mut [u64], start: Start, side
             return Top {
                 place: 24,
                 settled: i,
-                power: power,
+                power,
             };
         }
         let admitted = admits(out, 0, 21, left, start, side);
@@ -86,17 +66,16 @@ pub fn up(row: &mut [u64], out: &mut [u64], left: &mut [u64], start: Start, side
             return Top {
                 place: i,
                 settled: i,
-                power: power,
+                power,
             };
         }
         keep(row, out, i + 1, side);
-        i += 1;
         power += power;
     }
     Top {
         place: 24,
-        settled: i,
-        power: power,
+        settled: 24,
+        power,
     }
 }
 
@@ -147,10 +126,8 @@ pub fn down(
 {
     let mut count = power;
     let mut half = power;
-    let mut i = place;
-    while 0 < i {
-        i -= 1;
-        half = half / 2;
+    for i in (0..place).rev() {
+        half /= 2;
         count = add(row, out, left, start, place, i, count, half, side);
     }
     count

@@ -1,20 +1,13 @@
 // Difference bound matrices, closed by Floyd and Warshall's pivots: only the vertices in use are looked at.
 #![tactic(auto)]
 
-ghost use Rattle.std.specs.Prelude.{◌≡◌, ◌<◌, ◌≤◌, ◌^◌, max};
+ghost use Rattle.std.specs.Prelude.{◌≡◌, ◌<◌, ◌≤◌, ◌^◌};
 ghost use Rattle.zones.specs.Codes.{ZERO, Coded, sum_of};
 ghost use Rattle.zones.specs.Cells.{cell, Ranged};
 ghost use Rattle.closing.specs.Rows.{RowReady, RowTo, RowsTo};
 ghost use Rattle.closing.specs.Closing.{Closing};
 
 use zones::{BASE, NONE, ZERO, tighter};
-
-// The larger of two numbers.
-fn larger(e: u64, f: u64) -> u64
-    ensures { result ≡ max e f }
-{
-    if e < f { f } else { e }
-}
 
 // The code of the sum of two bounds: weak where both are. Within 2^57 ticks it neither wraps nor meets NONE.
 fn sum(e: u64, f: u64) -> u64
@@ -27,7 +20,7 @@ fn sum(e: u64, f: u64) -> u64
     if f == NONE {
         return NONE;
     }
-    let weak = larger(e % 2, f % 2);
+    let weak = (e % 2).max(f % 2);
     e + f - BASE - weak
 }
 
@@ -40,13 +33,11 @@ fn pivot_row(cells: &mut [u64], a: usize, p: usize, size: usize)
     if first == NONE {
         return;
     }
-    let mut b: usize = 0;
-    while b < size {
+    for b in 0..size {
         let old = cells[a * 21 + b];
         let second = cells[p * 21 + b];
         let way = sum(first, second);
         cells[a * 21 + b] = tighter(old, way);
-        b += 1;
     }
 }
 
@@ -56,10 +47,8 @@ fn pivot(cells: &mut [u64], p: usize, size: usize)
     requires { (size ≤ 21) × (p < size) × (Ranged (2 ^ 57) size cells.old) × (ZERO ≤ cell cells.old p p) }
     ensures { RowsTo size p size cells.old cells.new }
 {
-    let mut a: usize = 0;
-    while a < size {
+    for a in 0..size {
         pivot_row(cells, a, p, size);
-        a += 1;
     }
 }
 
@@ -69,13 +58,11 @@ pub fn close(cells: &mut [u64], from: usize, size: usize) -> bool
     requires { (from ≤ size) × (size ≤ 21) × (Ranged (2 ^ 52) size cells.old) }
     ensures { Closing size from cells.old cells.new result }
 {
-    let mut p = from;
-    while p < size {
+    for p in from..size {
         if cells[p * 21 + p] < ZERO {
             return false;
         }
         pivot(cells, p, size);
-        p += 1;
     }
     true
 }

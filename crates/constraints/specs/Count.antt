@@ -1,5 +1,5 @@
 -- The demands of k rounds are few.
-use Rattle.std.specs.Prelude.{◌≡◌, refl, List, [], ◌∷◌, ℕ, zero, suc, ◌+◌, ◌*◌, ◌≤◌, ◌<◌, length, get_or}
+use Rattle.std.specs.Prelude.{refl, List, [], ◌∷◌, ℕ, zero, suc, ◌+◌, ◌*◌, ◌≤◌, ◌<◌, length, get_or}
 use Rattle.std.proofs.Common.{ap, arith, mul-le-mul_left, length-append}
 use mathlib.Core.List.Memᴰ
 use Rattle.std.proofs.Math.Seq.{length-slice}
@@ -17,7 +17,7 @@ use Rattle.runs.specs.Copies.{copies_member}
 use Rattle.runs.specs.Tools.{Every, every_nil, every_cons}
 use Rattle.constraints.specs.Demands.{demands_of}
 use Rattle.constraints.specs.Rounds.{length_rounds}
-use Rattle.constraints.specs.Partner.{partners_of, partners_few, starts_number}
+use Rattle.constraints.specs.Partner.{partners_few, starts_number}
 
 -- ---- a guard has at most two
 guard_few : (r : Relation) (u d z e : ℕ) → length (guard_demands r u d z e) ≤ 2

@@ -8,7 +8,7 @@ use Rattle.table.specs.declared.Guard.{Guard}
 use Rattle.table.specs.declared.Relation.{Relation}
 use Rattle.table.specs.declared.Relation.TheVariants.{Under, AtMost, Exactly, AtLeast, Over}
 use Rattle.table.specs.declared.Table.{Table}
-use Rattle.runs.specs.Demand.{guard_demands, demands_at, guards_demands}
+use Rattle.runs.specs.Demand.{guard_demands, demands_at}
 use Rattle.runs.specs.DemandOrder.{guards_demands_nil, guards_demands_cons}
 use Rattle.constraints.specs.Pieces.{guard_demand, twice_of}
 use Rattle.constraints.specs.Demands.{guards_from}

@@ -1,5 +1,5 @@
 -- The last resets, a list, are the function of `steps_demands`.
-use Rattle.std.specs.Prelude.{◌≡◌, Bool, false, cond, List, set}
+use Rattle.std.specs.Prelude.{◌≡◌, Bool, true, false, cond, List, set}
 use Rattle.std.proofs.Math.Path.{refl}
 use Rattle.std.proofs.Common.{sym, ap, ◌∙◌, add-one, get_or-set_same, get_or-drop, get_or-take}
 use Prim.Native.Nat.{ℕ, zero, suc, ◌+◌, ◌*◌, ◌≤◌, ◌<◌}
@@ -7,6 +7,7 @@ use native.Mathlib.Omega.{arith}
 use Rattle.std.proofs.Math.Decide.{dec_lt}
 use Rattle.std.proofs.Math.ListN.{length, get_or, length-set}
 use Rattle.std.proofs.Math.Seq.{get_or-set_other}
+use Rattle.std.proofs.lemmas.List.{set-get_or}
 use Rattle.table.specs.Step.{step_at, resets}
 use Rattle.table.specs.declared.Table.{Table}
 use Rattle.runs.specs.Run.{zeroed}
@@ -42,6 +43,15 @@ module _ (flags : List Bool) (s i : ℕ) (z : List ℕ) where
   reset_stored j out v e f =
       reset_more j out v e
       (f ∙ ap (cond (get_or flags (7 * s + j) false) i) (ap (λ l. get_or l j 0) e ∙ reset_later j j (omega arith)))
+
+  -- a clock that is reset, and one that is not
+  pub reset_now : (j : ℕ) (out : List ℕ) → get_or flags (7 * s + j) false ≡ true → out ≡ reset_to flags s i z j
+      → set out j i ≡ reset_to flags s i z (j + 1)
+  reset_now j out h e = reset_stored j out i e (rw h refl)
+
+  pub reset_kept : (j : ℕ) (out : List ℕ) → get_or flags (7 * s + j) false ≡ false → out ≡ reset_to flags s i z j
+      → out ≡ reset_to flags s i z (j + 1)
+  reset_kept j out h e = sym (set-get_or out j 0) ∙ reset_stored j out (get_or out j 0) e (rw h refl)
 
   -- each clock below n has its own
   reset_at : (n j : ℕ) → n ≤ length z → j < n → get_or (reset_to flags s i z n) j 0 ≡ after j

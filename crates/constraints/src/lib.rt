@@ -1,7 +1,7 @@
 // What the difference constraints (01: demands) of k rounds of a table are made of: the last resets, and the demands of a guard.
 #![tactic(auto)]
 
-ghost use Rattle.std.specs.Prelude.{◌≡◌, false, cond, map, ◌≤◌, ◌<◌, length, get_or};
+ghost use Rattle.std.specs.Prelude.{◌≡◌, false, map, ◌≤◌, ◌<◌, length, get_or};
 ghost use Rattle.table.specs.Step.{up_of, down_of, end_of};
 ghost use Rattle.runs.specs.Demand.{plus, starts_of, moved};
 ghost use Rattle.runs.specs.Parts.{bit};
@@ -16,15 +16,7 @@ pub fn fresh(total: usize) -> [usize; 7]
     requires { total ≤ 1024 }
     ensures { result ≡ fresh total }
 {
-    [
-        total,
-        total + 1,
-        total + 2,
-        total + 3,
-        total + 4,
-        total + 5,
-        total + 6,
-    ]
+    std::array::from_fn(|j| total + j)
 }
 
 // "From a to b of up − down".
@@ -44,16 +36,11 @@ fn demand(from: usize, to: usize, up: u64, down: u64, strict: bool) -> Demand
 pub fn not_after(from: usize, to: usize) -> Demand
     ensures { result ≡ plus from to 0 false }
 {
-    Demand {
-        from,
-        to,
-        up: 0,
-        down: 0,
-        strict: false,
-    }
+    demand(from, to, 0, 0, false)
 }
 
 // What the constant of a guard adds, and what it takes off, in ticks: one of the two is 0.
+#[tactic(auto, unfolding(table::specs::Step::up_of))]
 pub fn up_of(guard: Guard) -> u64
     ensures { result ≡ up_of guard }
 {
@@ -64,6 +51,7 @@ pub fn up_of(guard: Guard) -> u64
     }
 }
 
+#[tactic(auto, unfolding(table::specs::Step::down_of))]
 pub fn down_of(guard: Guard) -> u64
     ensures { result ≡ down_of guard }
 {
@@ -75,6 +63,7 @@ pub fn down_of(guard: Guard) -> u64
 }
 
 // The moment that a guard's clock is compared with: that of the step, or of the second clock's last reset.
+#[tactic(auto, using(table::specs::Step::end_none, table::specs::Step::end_some))]
 pub fn end_of(second: usize, i: usize, resets: &[usize]) -> usize
     requires { second < length resets.now }
     ensures { result ≡ end_of second i (λ j. get_or resets.now j 0) }
@@ -111,25 +100,19 @@ pub fn guard_demand(
 pub fn bit_of(strict: bool) -> u64
     ensures { result ≡ bit strict }
 {
-    if strict { 1 } else { 0 }
-}
-
-// `a` where the flag is set, else `b`.
-pub fn choose(flag: bool, a: usize, b: usize) -> usize
-    ensures { result ≡ cond flag a b }
-{
-    if flag { a } else { b }
+    u64::from(strict)
 }
 
 // The clocks that step s resets were last reset at its moment.
+#[tactic(auto, using(crate::specs::Resets::reset_now, crate::specs::Resets::reset_kept), unfolding(crate::specs::Pieces::reset_to))]
 pub fn reset_clocks(flags: &[bool; 119], s: usize, moment: usize, resets: &mut [usize])
     requires { (length flags.now ≡ 119) × (s ≤ 16) × (length resets.old ≡ 7) }
     ensures { resets.new ≡ reset_of flags.now s moment resets.old }
 {
-    let mut j: usize = 0;
-    while j < 7 {
-        resets[j] = choose(flags[7 * s + j], moment, resets[j]);
-        j += 1;
+    for j in 0..7 {
+        if flags[7 * s + j] {
+            resets[j] = moment;
+        }
     }
 }
 
@@ -145,13 +128,7 @@ pub fn following(s: usize, steps: usize) -> usize
 pub fn twice(relation: Relation) -> bool
     ensures { result ≡ twice_of relation }
 {
-    match relation {
-        Relation::Under => false,
-        Relation::AtMost => false,
-        Relation::Exactly => true,
-        Relation::AtLeast => false,
-        Relation::Over => false,
-    }
+    matches!(relation, Relation::Exactly)
 }
 
 // The demand that a variant of the start has for a clock, besides that its last reset is not after the start (N1: its partner).
@@ -162,6 +139,7 @@ pub enum Partner {
 }
 
 // The partner for clock j, when there are `total` steps.
+#[tactic(auto, using(crate::specs::Partner::partner_one, crate::specs::Partner::partner_none))]
 pub fn partner_of(start: Start, total: usize, j: usize) -> Partner
     requires { (total ≤ 1024) × (0 < j) × (j ≤ 6) }
     ensures { partner_list result ≡ map (moved total) (starts_of start j) }

@@ -13,19 +13,19 @@ pub fn put_counted(out: &mut [u8], at: usize, clocks: usize, steps: usize, guard
     ensures written { Written out.old at (counted_line clocks steps guards) out.new result }
     ensures upper_bound { result ≤ at + 83 }
 {
-    lines::put_line3(
+    lines::put_line(
         out,
         at,
-        b"clocks ",
-        clocks as u64,
-        b" steps ",
-        steps as u64,
-        b" guards ",
-        guards as u64,
+        &[
+            (b"clocks ", clocks as u64),
+            (b" steps ", steps as u64),
+            (b" guards ", guards as u64),
+        ],
     )
 }
 
 // The line of the count.
+#[tactic(auto, unfolding(crate::specs::Lines::count_line))]
 pub fn put_count(out: &mut [u8], at: usize, count: Count) -> usize
     requires { at + 28 ≤ length out.old }
     ensures written { Written out.old at (count_line count) out.new result }
@@ -39,11 +39,12 @@ pub fn put_count(out: &mut [u8], at: usize, count: Count) -> usize
 }
 
 // How many rounds are planned.
+#[tactic(auto, unfolding(crate::specs::Lines::planned_of))]
 pub fn planned(count: Count) -> u64
     ensures { result ≡ planned_of count }
 {
     match count {
-        Count::Finite(c) => { if c < 2 { c } else { 2 } }
+        Count::Finite(c) => c.min(2),
         Count::Endless => 2,
         Count::Refused(_) => 0,
     }

@@ -14,12 +14,10 @@ fn strip(out: &mut [u64], row: &[u64], to: usize, from: usize, side: usize)
     requires { (length out.old ≡ 441) × (length row.now ≡ 4900) × (to + side ≤ 441) × (from + side ≤ 4900) }
     ensures { out.new ≡ strip_of to from row.now side out.old }
 {
-    let mut c: usize = 0;
-    while c < side {
+    for c in 0..side {
         let old = out[to + c];
         let new = row[from + c];
         out[to + c] = tighter(old, new);
-        c += 1;
     }
 }
 
@@ -29,10 +27,8 @@ fn block(out: &mut [u64], row: &[u64], to: usize, from: usize, side: usize)
         × (from + side * 15 ≤ 4914) }
     ensures { out.new ≡ block_of to from row.now side side out.old }
 {
-    let mut r: usize = 0;
-    while r < side {
+    for r in 0..side {
         strip(out, row, to + r * 21, from + r * 14, side);
-        r += 1;
     }
 }
 

@@ -42,19 +42,14 @@ fn back_from(
         (state time.old parent.old stamp.old)
         (state time.new parent.new stamp.new) result.stamp × (result.next ≤ from) }
 {
-    let mut i = from;
     let mut s = first;
     let mut low = from;
     let mut next = q;
-    while 0 < i {
-        if i < low {
-            return Way {
-                next: low,
-                stamp: next,
-            };
+    for i in (0..from).rev() {
+        if i + 1 < low {
+            break;
         }
         s = preceding(s, steps);
-        i -= 1;
         let begun = Sweep {
             raised: false,
             stamp: next,

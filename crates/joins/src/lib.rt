@@ -35,10 +35,8 @@ pub fn keep(row: &mut [u64], out: &[u64], place: usize, side: usize)
     ensures { LinesTo (side + side) (place * 196) (side + side) out.now row.old row.new }
 {
     let size = side + side;
-    let mut r: usize = 0;
-    while r < size {
+    for r in 0..size {
         copy_line(row, out, place * 196 + r * 14, r * 21, size);
-        r += 1;
     }
 }
 
@@ -48,13 +46,11 @@ fn step_more(row: &mut [u64], out: &mut [u64], t: Table, i: usize, side: usize) 
         × (i < t.steps) × Describes (steps_from t 0 i) (whole side (effect_at row.old 0)) }
     ensures { Tells (steps_from t 0 (i + 1)) result (whole side (effect_at row.new 0)) }
 {
-    let here = step_effect(out, side, t, i);
-    if !here {
+    if !step_effect(out, side, t, i) {
         return false;
     }
     keep(row, out, 1, side);
-    let both = join(out, row, 0, 1, side);
-    if !both {
+    if !join(out, row, 0, 1, side) {
         return false;
     }
     keep(row, out, 0, side);
@@ -66,18 +62,14 @@ pub fn round_effect(row: &mut [u64], out: &mut [u64], t: Table, side: usize) -> 
     requires { (length row.old ≡ 4900) × (length out.old ≡ 441) × Good t × Side side × UsesAll side t }
     ensures { Tells (steps_of t) result (whole side (effect_at row.new 0)) }
 {
-    let first = step_effect(out, side, t, 0);
-    if !first {
+    if !step_effect(out, side, t, 0) {
         return false;
     }
     keep(row, out, 0, side);
-    let mut i: usize = 1;
-    while i < t.steps {
-        let more = step_more(row, out, t, i, side);
-        if !more {
+    for i in 1..t.steps {
+        if !step_more(row, out, t, i, side) {
             return false;
         }
-        i += 1;
     }
     true
 }

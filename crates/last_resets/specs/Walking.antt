@@ -26,6 +26,9 @@ following_mod i L p = go (dec_lt (suc (i % L)) L)
         let e : suc (i % L) ≡ L = omega (arith, mod-lt i p) in
         following_round (i % L) L (omega arith) ∙ sym (suc-mod i L ∙ ap (λ n. n % L) e ∙ mod_self L)
 
+pub step_on : (i s r L : ℕ) → 0 < L → s ≡ i % L → r ≡ following_of s L → r ≡ (i + 1) % L
+step_on i s r L p e f = f ∙ ap (λ n. following_of n L) e ∙ following_mod i L p ∙ ap (λ n. n % L) (sym (add-one i))
+
 -- and one step less
 pub preceding_mod : (i L : ℕ) → 0 < L → preceding_of (suc i % L) L ≡ i % L
 preceding_mod i L p = go (dec_lt (suc (i % L)) L)

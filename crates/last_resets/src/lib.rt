@@ -23,14 +23,13 @@ fn one_more(reset: bool, n: usize) -> usize
 }
 
 // Carries `count` numbers of the row from one step on to the next.
+#[tactic(auto, using(crate::specs::Carried::carried_more, crate::specs::Carried::carried_zero))]
 fn carry(flags: &[bool; 119], from: usize, to: usize, count: usize, row: &mut [usize; 112])
     requires { (length flags.now ≡ 119) × (from + count ≤ 112) × (to + count ≤ 112) × Small 500 row.old }
     ensures { row.new ≡ carried flags.now from to row.old count }
 {
-    let mut n: usize = 0;
-    while n < count {
+    for n in 0..count {
         row[to + n] = one_more(flags[from + n], row[from + n]);
-        n += 1;
     }
 }
 
@@ -48,6 +47,7 @@ pub fn put_distances(resets: &[bool; 119], steps: usize, row: &mut [usize; 112])
 }
 
 // The moment of the last reset of clock j when i of `total` steps are past, from its distance.
+#[tactic(auto, using(crate::specs::Distance::last_none, crate::specs::Distance::last_reached, crate::specs::Distance::last_before))]
 pub fn last_reset(distance: usize, total: usize, i: usize, j: usize) -> usize
     requires { (total ≤ 1024) × (i ≤ 1024) × (j ≤ 6) }
     ensures { result ≡ last_of distance total i j }
@@ -70,6 +70,7 @@ pub fn preceding(s: usize, steps: usize) -> usize
 }
 
 // The step of its round that step `next` is, when step i is step s.
+#[tactic(auto, using(crate::specs::Walking::following_mod))]
 pub fn step_of(s: usize, i: usize, next: usize, steps: usize) -> usize
     requires { (0 < steps) × (steps ≤ 16) × (i < 1024) × (s ≡ i % steps) }
     ensures { result ≡ next % steps }
@@ -84,14 +85,12 @@ pub fn step_of(s: usize, i: usize, next: usize, steps: usize) -> usize
 fn lower(low: usize, z: usize, stamp: u64, since: u64) -> usize
     ensures { result ≤ low }
 {
-    if stamp < since {
-        return low;
-    }
-    if z < low { z } else { low }
+    if stamp < since { low } else { low.min(z) }
 }
 
 // The lowest of a moment and the last resets at step i whose stamp is not below `since`, where something was raised. It is step s of its
 // round.
+#[tactic(auto, using(crate::specs::Within::last_within))]
 pub fn lowest(
     raised: bool,
     far: &[usize],
@@ -110,11 +109,9 @@ pub fn lowest(
         return low;
     }
     let mut found = low;
-    let mut j: usize = 1;
-    while j <= clocks {
+    for j in 1..clocks + 1 {
         let z = last_reset(far[7 * s + j], total, i, j);
         found = lower(found, z, stamp[z], since);
-        j += 1;
     }
     found
 }
@@ -124,8 +121,5 @@ pub fn later(top: usize, i: usize, hit: bool, total: usize) -> usize
     requires { (i < total) × (top ≤ total) }
     ensures { (top ≤ result) × (result ≤ total) }
 {
-    if !hit {
-        return top;
-    }
-    if top <= i { i + 1 } else { top }
+    if hit { top.max(i + 1) } else { top }
 }

@@ -45,26 +45,17 @@ pub fn descend(
     ensures { Descended low.now far.now steps clocks total from floor
         late.old late.new result }
 {
-    let mut i = from;
     let mut s = first;
     let mut lowest = floor;
-    while 0 < i {
-        if i < lowest {
+    for i in (0..from).rev() {
+        if i + 1 < lowest {
             return lowest;
         }
         s = preceding(s, steps);
-        i -= 1;
         let ordered = bound(not_after(i + 1, i), late, lowest);
         lowest = bound_side(false, low, far, clocks, total, s, i, late, ordered);
     }
     lowest
-}
-
-// What is left of a number when another is taken away, 0 at the least.
-pub fn less(a: usize, b: usize) -> usize
-    ensures { result ≡ a - b }
-{
-    if a < b { 0 } else { a - b }
 }
 
 // The checks of step i forth, its tightest guards from above. Where they lower it, and steps are left to go back, the checks back from
@@ -108,7 +99,7 @@ fn ascend_step(
     Way {
         hit: true,
         next,
-        left: less(left, i + 2 - next),
+        left: left.saturating_sub(i + 2 - next),
     }
 }
 
@@ -163,17 +154,15 @@ fn rise(
         × Bounded (total + clocks + 1) (back_edges up.now far.now steps clocks total) late.old }
     ensures { Risen up.now far.now steps clocks total last late.old late.new result }
 {
-    let mut i = from;
     let mut s = first;
     let mut top = last;
-    while i < total {
+    for i in from..total {
         if top + steps <= i {
             return top;
         }
         let lowest = bound_side(true, up, far, clocks, total, s, i, late, NEVER);
         top = later(top, i, lowest < NEVER, total);
         s = following(s, steps);
-        i += 1;
     }
     top
 }
@@ -217,7 +206,7 @@ fn glide_step(
     let top = rise(up, far, steps, clocks, total, lowest, first, i, late);
     Gone {
         next: top,
-        left: less(left, top + steps + 1 - lowest),
+        left: left.saturating_sub(top + steps + 1 - lowest),
     }
 }
 
@@ -267,12 +256,12 @@ pub fn settle(
     ensures { Greatest (total + clocks + 1) (step_edges low.now up.now far.now steps clocks total)
         late.old late.new }
 {
-    let begun = ascend(low, up, far, steps, clocks, total, 0, late);
+    ascend(low, up, far, steps, clocks, total, 0, late);
     let mut hit = true;
     let mut most: usize = 0;
     while hit {
         glide(low, up, far, steps, clocks, total, most, late);
-        let bottom = descend(low, far, steps, clocks, total, total, 0, 0, late);
+        descend(low, far, steps, clocks, total, total, 0, 0, late);
         hit = ascend(low, up, far, steps, clocks, total, 4 * total, late);
         most = 16 * total;
     }

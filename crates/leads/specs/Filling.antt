@@ -1,9 +1,10 @@
 -- The row, filled guard by guard.
-use Rattle.std.specs.Prelude.{◌≡◌, refl, List, [], ◌∷◌, ◌++◌, map, ℕ, zero, suc, ◌+◌, ◌≤◌, ◌<◌, length, get_or, set, replicate}
-use Rattle.std.proofs.Common.{sym, ap, subst, ◌∙◌, append-nil, arith, add-one, lt-ltb, le-ltb, eq-eqb, ne_eqb, length-set, length-append, get_or-set_same, get_or-set_other}
+use Rattle.std.specs.Prelude.{◌≡◌, refl, List, [], ◌∷◌, ◌++◌, map, ℕ, zero, suc, ◌+◌, ◌-◌, ◌≤◌, ◌<◌, length, get_or, set, take, drop, replicate}
+use Rattle.std.proofs.Common.{sym, ap, subst, ◌∙◌, append-nil, arith, add-one, lt-ltb, le-ltb, eq-eqb, ne_eqb, length-set, length-append, length-take, length-drop, get_or-take, get_or-drop, get_or-set_same, get_or-set_other}
 use Rattle.std.proofs.Math.Decide.{dec_lt, ℕ_discrete}
 use Rattle.std.proofs.lemmas.List.{length-map, length-replicate, get_or-replicate, get_or_at}
 use Rattle.std.proofs.Math.Seq.{slice, slice_empty, slice-cons}
+use Rattle.std.specs.List.{AllWithin}
 use Rattle.table.specs.Step.{Good}
 use Rattle.table.specs.declared.Guard.{Guard}
 use Rattle.table.specs.declared.Table.{Table}
@@ -11,7 +12,7 @@ use Rattle.scaling.specs.Scaled.{guards_in}
 use Rattle.scaling.specs.Constants.{with_constant, with_at, table_with}
 use Rattle.sides.specs.Tight.{paired}
 use Rattle.leads.specs.Codes.{code_of}
-use Rattle.leads.specs.Leads.{leads_before, count_at, leads_of, is_leads, before_more, before_few, guards_size, before_step}
+use Rattle.leads.specs.Leads.{unread, leads_before, first_few, count_at, leads_of, is_leads, before_more, guards_size, before_step}
 
 -- The steps up to step s are counted, and the leads before guard i have their numbers.
 pub record Filling (T : Table) (row : List ℕ) (s i count : ℕ) : Type 0 where
@@ -21,6 +22,7 @@ pub record Filling (T : Table) (row : List ℕ) (s i count : ℕ) : Type 0 where
   pub first : get_or T.ends s 0 ≤ i
   pub last : s < T.steps → i ≤ get_or T.ends (s + 1) 0
   pub end : T.steps ≤ s → i ≤ guards_in T
+  pub few : count ≤ i
   pub count_is : count ≡ length (leads_before T i)
   pub counted : (k : ℕ) → k ≤ s → get_or row k 0 ≡ length (leads_before T (get_or T.ends k 0))
   pub after : (k : ℕ) → s < k → k < 18 → get_or row k 0 ≡ 0
@@ -75,9 +77,19 @@ module _ (t : Table) (good : Good t) (cs : List ℕ) where
     before_lead : ¬ (g.second ≡ 0) → leads_before T (i + 1) ≡ leads_before T i ++ own ∷ []
     before_lead n = more ∙ ap (λ gs. leads_before T i ++ gs) (paired_some own n)
 
+  -- none before the first guard, and none behind guards of one clock
   pub before_first : (i : ℕ) → i ≡ get_or t.ends 0 0 → leads_before T i ≡ []
   unfolding paired
   before_first i e = rw (e, slice_empty (get_or t.ends 0 0) T.guards)
+
+  pub before_plains : (d : Guard) (n i : ℕ) → get_or t.ends 0 0 + n ≡ i → i ≤ 64
+      → ((k : ℕ) → k < n → (get_or t.guards (get_or t.ends 0 0 + k) d).second ≡ 0) → leads_before T i ≡ []
+  before_plains d zero i e l h = before_first i (omega arith)
+  before_plains d (suc n) i e l h =
+      let next : (get_or t.ends 0 0 + n) + 1 ≡ i = omega arith in
+      rw (← next)
+      (before_plain (get_or t.ends 0 0 + n) d (omega arith) (omega arith) (h n (omega arith))
+      ∙ before_plains d n (get_or t.ends 0 0 + n) refl (omega arith) (λ k b. h k (omega arith)))
 
   abbrev empty : List ℕ
   empty = replicate 82 0
@@ -94,6 +106,7 @@ module _ (t : Table) (good : Good t) (cs : List ℕ) where
         first = omega arith;
         last = λ l. good.order 0 l;
         end = λ l. absurd (omega (arith, good.steps_some));
+        few = omega arith;
         count_is = sym none;
         counted = λ k l.
             let e : 0 ≡ k = omega arith in
@@ -117,6 +130,7 @@ module _ (t : Table) (good : Good t) (cs : List ℕ) where
             first = omega arith;
             last = λ m. omega (arith, good.order (s + 1) m);
             end = λ m. let same : s + 1 ≡ t.steps = omega arith in omega (arith, ap (λ k. get_or t.ends k 0) same);
+            few = f.few;
             count_is = f.count_is;
             counted = λ k m. go k (dec_lt s k) m;
             after = λ k m b. get_or-set_other row (s + 1) k v 0 (omega arith) ∙ f.after k (omega arith) b;
@@ -138,7 +152,7 @@ module _ (t : Table) (good : Good t) (cs : List ℕ) where
         guard_room = omega (arith, good.room (s + 1) (omega arith))
 
         pub lead_room : count < 64
-        lead_room = omega (arith, f.count_is, guard_room, before_few T i (omega (arith, guards_size t good cs, guard_room)))
+        lead_room = omega (arith, f.few, guard_room)
 
         -- a guard on one clock is left out
         pub filling_plain : (d : Guard) → (get_or t.guards i d).second ≡ 0 → Filling T row s (i + 1) count
@@ -150,6 +164,7 @@ module _ (t : Table) (good : Good t) (cs : List ℕ) where
               first = omega (arith, f.first);
               last = λ _. omega arith;
               end = λ m. absurd (omega arith);
+              few = omega (arith, f.few);
               count_is = f.count_is ∙ ap length (sym same);
               counted = f.counted;
               after = f.after;
@@ -171,6 +186,7 @@ module _ (t : Table) (good : Good t) (cs : List ℕ) where
               first = omega (arith, f.first);
               last = λ _. omega arith;
               end = λ m. absurd (omega arith);
+              few = omega (arith, f.few);
               count_is = omega (arith, f.count_is, ap length longer, length-append (leads_before T i) (lead ∷ []));
               counted = λ k m. get_or-set_other row (18 + count) k v 0 (omega (arith, good.steps_few)) ∙ f.counted k m;
               after = λ k m b. get_or-set_other row (18 + count) k v 0 (omega arith) ∙ f.after k m b;
@@ -233,3 +249,24 @@ module _ (t : Table) (good : Good t) (cs : List ℕ) where
             ap length (before_step t good cs k n),
             length-append (leads_before T f) (paired (slice f (guards_in t) T.guards)),
           ))
+
+  -- and there is none where no guard of the table has a second clock
+  pub plain_guards : let first = get_or t.ends 0 0 in let guards = take (guards_in t - first) (drop first t.guards) in
+      AllWithin (λ (g : Guard). g.second ≡ 0) guards 0 (length guards) → empty ≡ leads_of T
+  plain_guards h =
+      no_leads
+      (before_plains unread (guards_in t - first) (guards_in t) (omega (arith, few)) room
+      (λ k b. rw (get_or-take (guards_in t - first) (drop first t.guards) k unread b, get_or-drop first t.guards k unread) at
+      (h k unread (omega arith) (omega (arith, size)))))
+    where
+      first : ℕ
+      first = get_or t.ends 0 0
+
+      room : guards_in t ≤ 64
+      room = good.room t.steps (omega arith)
+
+      few : first ≤ guards_in t
+      few = first_few t good cs t.steps (omega arith)
+
+      size : length (take (guards_in t - first) (drop first t.guards)) ≡ guards_in t - first
+      size = omega (arith, length-take (guards_in t - first) (drop first t.guards), length-drop first t.guards, good.guards_size, few, room)

@@ -2,15 +2,15 @@
 // that check them.
 #![tactic(auto)]
 
-ghost use Rattle.std.specs.Prelude.{◌≡◌, cond, ◌≤◌, ◌<◌, ltb, length, get_or, replicate};
+ghost use Rattle.std.specs.Prelude.{◌≡◌, ◌≤◌, ◌<◌, ◌+◌, ltb, length, get_or, replicate};
 ghost use Rattle.table.specs.Step.{Good};
 ghost use Rattle.scaling.specs.Scaled.{most};
 ghost use Rattle.scaling.specs.Constants.{with_constant, table_with};
 ghost use Rattle.sides.specs.Keys.{Numbers};
 ghost use Rattle.leads.specs.Codes.{relation_code, relation_at, code_of, guard_at};
+ghost use Rattle.leads.specs.Filling.{Filling};
 ghost use Rattle.leads.specs.Leads.{leads_of};
 
-use scaling::MOST;
 use table::{Guard, Relation, Table};
 
 // The number of a relation, 0 to 4.
@@ -45,25 +45,19 @@ fn relation_at(code: u64) -> Relation
     Relation::Over
 }
 
-// 1 where it is true.
-fn bit(flag: bool) -> u64
-    ensures { result ≡ cond flag 1 0 }
-{
-    if flag { 1 } else { 0 }
-}
-
 // A guard with another constant as a number: its clock, its second clock, its relation, its sign and the constant.
+#[tactic(auto, unfolding(crate::specs::Codes::code_of))]
 fn code_of(g: Guard, constant: u64) -> u64
     requires { constant ≤ most }
     ensures { result ≡ code_of (with_constant constant g) }
 {
-    let compared = g.relation;
-    let relation = relation_code(compared);
-    let sign = bit(g.minus);
+    let relation = relation_code(g.relation);
+    let sign = u64::from(g.minus);
     g.clock as u64 + 7 * g.second as u64 + 49 * relation + 245 * sign + 490 * constant
 }
 
 // The guard of a number, without its constant.
+#[tactic(auto, using(crate::specs::Codes::unsigned_is))]
 pub fn guard_at(code: u64) -> Guard
     ensures { result ≡ with_constant 0 (guard_at code) }
 {
@@ -77,28 +71,32 @@ pub fn guard_at(code: u64) -> Guard
     }
 }
 
-// Fills the row of a table that has leads. Step s is next, with the guard at place i, and `count` leads stand in the row.
+// Puts the numbers of the leads of step s after those of the steps before it, `count` of them, and gives how many stand there then.
+fn put_step(t: &Table, constants: &[u64; 64], s: usize, count: usize, row: &mut [u64; 82]) -> usize
+    requires { Good t.now × Numbers t.now constants.now × (s < t.now.steps)
+        × Filling (table_with constants.now t.now) row.old s (get_or t.now.ends s 0) count }
+    ensures { Filling (table_with constants.now t.now) row.new s (get_or t.now.ends (s + 1) 0) result }
+{
+    let mut next = count;
+    for i in t.ends[s]..t.ends[s + 1] {
+        let g = t.guards[i];
+        if g.second != 0 {
+            row[18 + next] = code_of(g, constants[i]);
+            next += 1;
+        }
+    }
+    next
+}
+
+// Fills the row of a table that has leads.
 fn fill(t: Table, constants: &[u64; 64], row: &mut [u64; 82])
     requires { Good t × Numbers t constants.now × (row.old ≡ replicate 82 0) }
     ensures { row.new ≡ leads_of (table_with constants.now t) }
 {
     let mut count: usize = 0;
-    let mut s: usize = 0;
-    let mut i = t.ends[0];
-    while s < t.steps {
-        if i == t.ends[s + 1] {
-            s += 1;
-            row[s] = count as u64;
-            continue;
-        }
-        let g = t.guards[i];
-        let constant = constants[i];
-        i += 1;
-        if g.second == 0 {
-            continue;
-        }
-        row[18 + count] = code_of(g, constant);
-        count += 1;
+    for s in 0..t.steps {
+        count = put_step(&t, constants, s, count, row);
+        row[s + 1] = count as u64;
     }
 }
 
@@ -108,15 +106,9 @@ pub fn put_leads(t: Table, constants: &[u64; 64], row: &mut [u64; 82])
     requires { Good t × Numbers t constants.now × (row.old ≡ replicate 82 0) }
     ensures { row.new ≡ leads_of (table_with constants.now t) }
 {
-    let end = t.ends[t.steps];
-    let mut i = t.ends[0];
-    while i < end {
-        let g = t.guards[i];
-        if g.second != 0 {
-            fill(t, constants, row);
-            return;
-        }
-        i += 1;
+    let guards = &t.guards[t.ends[0]..t.ends[t.steps]];
+    if guards.iter().any(|g| g.second != 0) {
+        fill(t, constants, row);
     }
 }
 

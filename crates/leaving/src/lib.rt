@@ -44,16 +44,12 @@ fn forth_from(
         (state time.old parent.old stamp.old)
         (state time.new parent.new stamp.new) result.stamp × (result.next ≤ total) }
 {
-    let mut i = from;
     let mut s = first;
     let mut top = last;
     let mut next = q;
-    while i < total {
+    for i in from..total {
         if top + steps <= i {
-            return Way {
-                next: top,
-                stamp: next,
-            };
+            break;
         }
         let begun = Sweep {
             raised: false,
@@ -66,7 +62,6 @@ fn forth_from(
         top = later(top, i, swept.raised, total);
         next = swept.stamp;
         s = following(s, steps);
-        i += 1;
     }
     Way {
         next: top,

@@ -14,9 +14,8 @@ ghost use Rattle.led_latest.specs.Steps.{led_back_edges, led_edges};
 use bounding::{bound_leads, bound_side};
 use constraints::following;
 use last_resets::step_of;
-use latest::{NEVER, Way, descend, less, settle};
+use latest::{NEVER, Way, descend, settle};
 use leads::any_leads;
-use lowering::smaller;
 
 // The checks of step i forth, its tightest guards from above and then those between two clocks. Where they lower a bound, and steps are
 // left to go back, the checks back from the step follow at once, and the ascent goes on after the lowest moment that is lowered. It is
@@ -60,12 +59,12 @@ fn ascend_step(
         };
     }
     let after = following(s, steps);
-    let floor = smaller(lowest, i + 1);
+    let floor = lowest.min(i + 1);
     let next = descend(low, far, steps, clocks, total, i + 1, after, floor, late);
     Way {
         hit: true,
         next,
-        left: less(left, i + 2 - next),
+        left: left.saturating_sub(i + 2 - next),
     }
 }
 
@@ -125,7 +124,7 @@ pub fn lower_led(
 {
     let mut hit = true;
     while hit {
-        let bottom = descend(low, far, steps, clocks, total, total, 0, 0, late);
+        descend(low, far, steps, clocks, total, total, 0, 0, late);
         hit = ascend(low, up, leads, far, steps, clocks, total, 16 * total, late);
     }
 }

@@ -41,11 +41,9 @@ pub fn back_led(
         (state time.new parent.new stamp.new) result.raised result.stamp }
 {
     let mut swept = w;
-    let mut i = total;
     let mut s: usize = 0;
-    while 0 < i {
+    for i in (0..total).rev() {
         s = preceding(s, steps);
-        i -= 1;
         let sided = check_side(
             true, up, far, clocks, total, s, i, time, parent, stamp, swept,
         );

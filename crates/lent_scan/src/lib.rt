@@ -1,4 +1,4 @@
-// The running record that a terminal holds, lent and updated at each scan: taken apart, scanned by value, and put back.
+// The running record that a terminal holds, lent and updated at each scan.
 #![tactic(auto)]
 
 ghost use Rattle.std.specs.Prelude.{◌≡◌};
@@ -12,17 +12,7 @@ pub fn scan_lent(bytes: &[u8], running: &mut Running, counter: u16) -> Verdict
     ensures { (result ≡ (scan_of bytes.now running.old counter).verdict)
         × (running.new ≡ (scan_of bytes.now running.old counter).running) }
 {
-    let step = running.step;
-    let readings = running.readings;
-    let last = running.counter;
-    let old = Running {
-        step,
-        readings,
-        counter: last,
-    };
-    let scanned = scan(bytes, old, counter);
-    running.step = scanned.running.step;
-    running.readings = scanned.running.readings;
-    running.counter = scanned.running.counter;
+    let scanned = scan(bytes, *running, counter);
+    *running = scanned.running;
     scanned.verdict
 }

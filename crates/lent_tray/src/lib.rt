@@ -1,4 +1,4 @@
-// The running record that a terminal holds, lent and updated by a tray of scans: taken apart, given by value, and put back.
+// The running record that a terminal holds, lent and updated by a tray of scans.
 #![tactic(auto)]
 
 ghost use Rattle.std.specs.Prelude.{◌≡◌, length};
@@ -19,17 +19,7 @@ pub fn tray_lent(
         × (running.new ≡ running_of bytes.now running.old counters.now (length verdicts.old))
         × (verdicts.new ≡ verdicts_of bytes.now running.old counters.now verdicts.old) }
 {
-    let step = running.step;
-    let readings = running.readings;
-    let last = running.counter;
-    let old = Running {
-        step,
-        readings,
-        counter: last,
-    };
-    let trayed = tray(bytes, old, counters, verdicts);
-    running.step = trayed.running.step;
-    running.readings = trayed.running.readings;
-    running.counter = trayed.running.counter;
+    let trayed = tray(bytes, *running, counters, verdicts);
+    *running = trayed.running;
     trayed.outcome
 }

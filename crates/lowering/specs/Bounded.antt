@@ -7,7 +7,7 @@ use mathlib.Core.List.{List, [], ◌∷◌, ◌++◌, Memᴰ}
 use Rattle.std.proofs.Math.Decide.{ℕ_discrete, dec_lt}
 use Rattle.basics.specs.Places.{at}
 use Rattle.paths.specs.Constraint.{Constraint, Holds, All}
-use Rattle.lowering.specs.Lowered.{Bounds, bounds, none, high_of, lower_of, lowers_of, lower_hit, lower_miss}
+use Rattle.lowering.specs.Lowered.{Bounds, none, high_of, lower_of, lowers_of, lower_hit, lower_miss}
 use Rattle.lowering.specs.Count.{reached, reached_few, reached_more, reached_same}
 
 -- no gain and no loss is above 2^22

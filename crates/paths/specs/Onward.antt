@@ -1,9 +1,8 @@
 -- Constraints that one pass settles: none of them raises the end of itself or of one before it.
-use Rattle.std.specs.Prelude.{◌≡◌, refl, ◌⊎◌, ◌≢◌, ℕ, suc, ◌+◌, ◌≤◌, ◌<◌}
+use Rattle.std.specs.Prelude.{◌≡◌, refl, ◌⊎◌, ◌≢◌, ℕ, suc}
 use Rattle.std.proofs.Common.{sym, inl, inr, ⊎_elim, arith}
 use mathlib.Core.List.Memᴰ
 use mathlib.Core.List.{List, [], ◌∷◌, ◌++◌, Memᴰ}
-use Rattle.std.proofs.Math.Decide.{ℕ_discrete}
 use Rattle.basics.specs.Places.{at}
 use Rattle.paths.specs.Constraint.{Constraint, Holds, All, Fits, fits_tail}
 use Rattle.paths.specs.State.{State, relax_of, pass_of}

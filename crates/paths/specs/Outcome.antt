@@ -2,7 +2,7 @@
 -- a cycle of parents is a negative cycle, and a raise in the N-th pass leads to such a cycle.
 use Rattle.std.specs.Prelude.{◌≡◌, true, false, List, ℕ, suc, ◌+◌, ◌*◌, ◌≤◌, ◌<◌, length, take}
 use Rattle.std.proofs.Common.{sym, subst, suc-mul, mul-le-mul_right, arith}
-use Rattle.paths.specs.Walk.{iter, Ring, ring}
+use Rattle.paths.specs.Walk.{iter, Ring}
 use Rattle.basics.specs.Tab.{tab}
 use Rattle.basics.specs.Places.{at}
 use Rattle.paths.specs.Constraint.{Constraint, All, NegativeCycle}

@@ -58,11 +58,7 @@ pub fn fill(xs: &mut [u64], n: usize, v: u64)
     requires { n ≤ length xs.old }
     ensures { xs.new ≡ filled v n xs.old }
 {
-    let mut i: usize = 0;
-    while i < n {
-        xs[i] = v;
-        i += 1;
-    }
+    xs[..n].fill(v);
 }
 
 // Marks the walk of parents from v with v + 1, as far as vertices are stamped and not marked: where it ends.
@@ -72,8 +68,7 @@ fn mark(parent: &[u64], stamp: &[u64], marks: &mut [u64], v: usize, n: usize) ->
         marks.old marks.new result }
 {
     let mut x = v;
-    let mut k: usize = 0;
-    while k < n {
+    for _k in 0..n {
         if marks[x] != 0 {
             return x;
         }
@@ -82,7 +77,6 @@ fn mark(parent: &[u64], stamp: &[u64], marks: &mut [u64], v: usize, n: usize) ->
         }
         marks[x] = v as u64 + 1;
         x = parent[x] as usize;
-        k += 1;
     }
     x
 }
@@ -92,13 +86,11 @@ fn meet(parent: &[u64], stamp: &[u64], marks: &mut [u64], n: usize) -> usize
     requires { Unmarked n parent.now stamp.now marks.old }
     ensures { Met n parent.now stamp.now marks.old marks.new result }
 {
-    let mut v: usize = 0;
-    while v < n {
+    for v in 0..n {
         let x = mark(parent, stamp, marks, v, n);
         if marks[x] == v as u64 + 1 {
             return x;
         }
-        v += 1;
     }
     n
 }

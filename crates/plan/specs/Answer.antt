@@ -1,8 +1,7 @@
 -- The answer to the question "plan for k", and what it writes.
-use Rattle.std.specs.Prelude.{◌≡◌, List, ℕ, zero, suc, ◌+◌, ◌-◌, ◌≤◌, length, get_or, take}
+use Rattle.std.specs.Prelude.{◌≡◌, List, ℕ, zero, suc, ◌-◌, ◌≤◌, length, get_or, take}
 use Rattle.basics.specs.Places.{KeptFrom}
 use Rattle.table.specs.Step.{Step}
-use Rattle.table.specs.declared.Fault.TheVariants as fault
 use Rattle.table.specs.declared.Read.TheVariants.{Counted, Refused}
 use Rattle.wire.specs.Reading.{read_of}
 use Rattle.runs.specs.declared.Start.{Start}

@@ -1,19 +1,13 @@
 -- What a plan is asked of: steps, and the starts that are allowed.
-use Rattle.std.specs.Prelude.{◌≡◌, ◌⊎◌, true, false, List, [], ◌∷◌, map, ℕ, zero, suc, ◌+◌, ◌≤◌, ◌<◌, length}
-use Rattle.std.proofs.Common.{inl, inr, arith}
+use Rattle.std.specs.Prelude.{List, ℕ, ◌+◌, ◌≤◌, ◌<◌, length}
+use Rattle.std.proofs.Common.{arith}
 use Rattle.table.specs.Step.{Step, Fairs, steps_of}
 use Rattle.table.specs.declared.Table.{Table}
-use Rattle.table.specs.declared.Guard.{Guard}
-use Rattle.table.specs.declared.Relation.{Relation}
-use Rattle.table.specs.declared.Relation.TheVariants.{Under, AtMost, Exactly, AtLeast, Over}
-use Rattle.runs.specs.Run.{zeroed}
-use Rattle.runs.specs.declared.Demand.{Demand}
-use Rattle.runs.specs.Demand.{plus, minus, guard_demands, guards_demands, steps_demands}
 use Rattle.runs.specs.declared.Start.{Start}
-use Rattle.runs.specs.Demand.{Starts, starts_of, moved, start_demands, demands, Clocks, Places}
+use Rattle.runs.specs.Demand.{Starts, starts_of, demands, Clocks, Places}
 use Rattle.runs.specs.Start.{start_upper}
 use Rattle.runs.specs.DemandRange.{Proper, demands_proper}
-use Rattle.runs.specs.Tools.{Every, every_nil, every_cons, every_append, every_map}
+use Rattle.runs.specs.Tools.{Every}
 use Rattle.runs.specs.Copies.{fairs_copies, clocks_copies}
 use Rattle.constraints.specs.Sized.{Sized, rounds_of}
 

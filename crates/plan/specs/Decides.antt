@@ -1,5 +1,5 @@
 -- The answer decides whether a run exists.
-use Rattle.std.specs.Prelude.{List, ℕ, length, take}
+use Rattle.std.specs.Prelude.{List, ℕ, take}
 use Rattle.std.proofs.Common.{arith}
 use Rattle.table.specs.Step.{Step}
 use Rattle.runs.specs.Demand.{Starts, Exists}

@@ -1,12 +1,11 @@
 -- The least solution of the demands above the start values is the earliest run.
 use Rattle.std.specs.Prelude.{◌≡◌, List, ℕ, ◌+◌, ◌*◌, ◌-◌, ◌≤◌, ◌<◌, length}
 use Rattle.std.proofs.Common.{arith}
-use Rattle.table.specs.Step.{Step, Fairs}
+use Rattle.table.specs.Step.{Step}
 use Rattle.runs.specs.Run.{Run}
-use Rattle.runs.specs.Demand.{Holds, Starts, steps_demands, start_demands, demands, Allowed, Clocks, Places}
+use Rattle.runs.specs.Demand.{Holds, Starts, steps_demands, start_demands, demands, Allowed}
 use Rattle.runs.specs.DemandOrder.{demands_is}
-use Rattle.runs.specs.DemandRange.{Proper}
-use Rattle.runs.specs.Tools.{Every, every_append}
+use Rattle.runs.specs.Tools.{every_append}
 use Rattle.runs.specs.Satisfies.{Satisfies, start_satisfies}
 use Rattle.runs.specs.RowSteps.{rising}
 use Rattle.runs.specs.Rows.{row_at, row_now, run_row}

@@ -7,14 +7,13 @@ use Rattle.table.specs.declared.Table.{Table}
 use Rattle.runs.specs.declared.Demand.{Demand}
 use Rattle.runs.specs.declared.Start.{Start}
 use Rattle.runs.specs.Demand.{Starts, starts_of}
-use Rattle.runs.specs.Loop.{Loop}
 use Rattle.runs.specs.Cycle.{enough_fewer}
 use Rattle.constraints.specs.Rounds.{length_rounds}
 use Rattle.constraints.specs.Sized.{Sized, moments_of, parts_of, rounds_of}
 use Rattle.sides.specs.Covers.{covers_satisfies, covers_loop}
 use Rattle.basics.specs.Places.{at, length_written, at_written, drop_written}
 use Rattle.paths.specs.Constraint.{All, NegativeCycle}
-use Rattle.checks.specs.InParts.{all_in_parts, satisfies_parts}
+use Rattle.checks.specs.InParts.{satisfies_parts}
 use Rattle.relaxing.specs.Rows.{rows, Sound}
 use Rattle.solving.specs.Solved as solved
 use Rattle.solving.specs.Solved.{LeastSolution, Plans, Cycles, Solved}

@@ -1,5 +1,5 @@
 -- A negative cycle of the constraints in parts is a loop of the demands.
-use Rattle.std.specs.Prelude.{◌≡◌, refl, ℕ, zero, suc, ◌≤◌, ◌<◌}
+use Rattle.std.specs.Prelude.{◌≡◌, refl, ℕ, zero, suc, ◌<◌}
 use Rattle.std.proofs.Common.{sym, ap, ◌∙◌, arith}
 use mathlib.Core.List.Memᴰ
 use mathlib.Core.List.{List, Memᴰ}
@@ -11,7 +11,7 @@ use Rattle.basics.specs.Choice.{choose as sel, choose_yes as sel_yes, choose_no 
 use Rattle.runs.specs.Parts.{gain, loss}
 use Rattle.runs.specs.Cycle.{Enough, cycle_loop}
 use Rattle.basics.specs.Numbers.{sum}
-use Rattle.paths.specs.Constraint.{Constraint, NegativeCycle, cycle_some}
+use Rattle.paths.specs.Constraint.{NegativeCycle, cycle_some}
 use Rattle.basics.specs.Places.{at}
 use Rattle.checks.specs.InParts.{in_parts, all_in_parts}
 

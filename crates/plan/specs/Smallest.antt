@@ -1,12 +1,12 @@
 -- The smallest starts for the moments of a solution: the greatest solution with these moments.
-use Rattle.std.specs.Prelude.{◌≡◌, refl, List, ℕ, zero, suc, ◌+◌, ◌*◌, ◌-◌, ◌≤◌, ◌<◌, length}
-use Rattle.std.proofs.Common.{sym, ap, ◌∙◌, arith}
+use Rattle.std.specs.Prelude.{◌≡◌, List, ℕ, suc, ◌+◌, ◌*◌, ◌-◌, ◌≤◌, ◌<◌, length}
+use Rattle.std.proofs.Common.{arith}
 use Rattle.table.specs.Step.{Step}
 use Rattle.basics.specs.Numbers.{top, top_ge}
 use Rattle.runs.specs.Run.{Run}
 use Rattle.runs.specs.Demand.{Starts, demands, Allowed}
 use Rattle.runs.specs.Satisfies.{Satisfies}
-use Rattle.runs.specs.Rows.{Row, row_at, row_now, row_past, row_is, run_row, run_satisfies}
+use Rattle.runs.specs.Rows.{Row, row_at, row_now, row_past, run_row, run_satisfies}
 use Rattle.runs.specs.Twin.{longest}
 use Rattle.plan.specs.Planned.{Planned}
 use Rattle.plan.specs.Asked.{Asked, asked_places}

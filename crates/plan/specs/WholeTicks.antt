@@ -1,5 +1,5 @@
 -- Where no demand is strict, a plan in P parts to a tick is the plan in whole ticks, every moment and start times P.
-use Rattle.std.specs.Prelude.{◌≡◌, refl, List, ℕ, zero, suc, ◌+◌, ◌*◌, ◌-◌, ◌/◌, ◌≤◌, ◌<◌, length}
+use Rattle.std.specs.Prelude.{◌≡◌, refl, List, ℕ, suc, ◌+◌, ◌*◌, ◌-◌, ◌≤◌, ◌<◌, length}
 use Rattle.std.proofs.Common.{sym, ap, ◌∙◌, arith, le-div_iff_mul-le, mul-le-mul_right}
 use Rattle.table.specs.Step.{Step}
 use Rattle.basics.specs.Numbers.{top, top_ge}

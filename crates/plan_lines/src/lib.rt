@@ -11,7 +11,7 @@ fn put_start(out: &mut [u8], at: usize, clock: usize, start: u64) -> usize
     ensures written { Written out.old at (start_line clock start) out.new result }
     ensures upper_bound { result ≤ at + 51 }
 {
-    lines::put_line2(out, at, b"start ", clock as u64, b" at ", start)
+    lines::put_line(out, at, &[(b"start ", clock as u64), (b" at ", start)])
 }
 
 // The lines of the starts of clocks 1 to n.
@@ -21,10 +21,8 @@ fn put_starts(out: &mut [u8], at: usize, starts: &[u64], n: usize) -> usize
     ensures upper_bound { result ≤ at + 51 * n }
 {
     let mut next = at;
-    let mut j: usize = 0;
-    while j < n {
+    for j in 0..n {
         next = put_start(&mut *out, next, j + 1, starts[j]);
-        j += 1;
     }
     next
 }
@@ -35,15 +33,14 @@ fn put_step(out: &mut [u8], at: usize, round: usize, step: usize, moment: u64) -
     ensures written { Written out.old at (step_line round step moment) out.new result }
     ensures upper_bound { result ≤ at + 77 }
 {
-    lines::put_line3(
+    lines::put_line(
         out,
         at,
-        b"round ",
-        round as u64,
-        b" step ",
-        step as u64,
-        b" at ",
-        moment,
+        &[
+            (b"round ", round as u64),
+            (b" step ", step as u64),
+            (b" at ", moment),
+        ],
     )
 }
 
@@ -55,10 +52,8 @@ fn put_steps(out: &mut [u8], at: usize, times: &[u64], steps: usize, total: usiz
     ensures upper_bound { result ≤ at + 77 * total }
 {
     let mut next = at;
-    let mut i: usize = 0;
-    while i < total {
+    for i in 0..total {
         next = put_step(&mut *out, next, i / steps + 1, i % steps + 1, times[i]);
-        i += 1;
     }
     next
 }

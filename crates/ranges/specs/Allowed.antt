@@ -1,20 +1,23 @@
 -- Guards by the readings that they allow, which are those from a least to one past the greatest.
-use Rattle.std.specs.Prelude.{◌≡◌, refl, Bool, true, false, cond, ◌&&◌, List, [], ◌∷◌, ltb, leb, eqb, length, get_or}
+use Rattle.std.specs.Prelude.{Option, Some, None, ◌≡◌, refl, Bool, true, false, cond, not, ◌&&◌, List, [], ◌∷◌, map, ltb, leb, eqb, length, get_or}
 use Rattle.std.proofs.Math.Path.{sym, ap}
 use Rattle.std.proofs.Common.{◌∙◌, lt-ltb, le-ltb, le-leb, eq-eqb, ne_eqb}
 use Rattle.std.proofs.Math.Bool.{and-true}
 use Prim.Native.Nat.{ℕ, zero, suc, ◌+◌, ◌-◌, ◌≤◌, ◌<◌}
 use native.Mathlib.Omega.{arith}
+use Rattle.std.specs.List.{All, position, position_or_len}
+use Rattle.std.specs.Option.{option_map, unwrap_or}
+use Rattle.std.proofs.lemmas.Bool.Decides.{nat_tests}
+use Rattle.std.proofs.lemmas.List.{length-map}
+use mathlib.Core.List.{Memᴰ}
 use Rattle.std.proofs.Math.Decide.{dec_lt}
 use Rattle.std.proofs.lemmas.Bool.{lt-leb}
-use Rattle.basics.specs.Tab.{tab}
 use Rattle.table.specs.declared.Guard.{Guard}
 use Rattle.table.specs.declared.Relation.{Relation}
 use Rattle.table.specs.declared.Relation.TheVariants.{Under, AtMost, Exactly, AtLeast, Over}
 use Rattle.table.specs.declared.Table.{Table}
-use Rattle.filling.specs.Filling.{no_guard}
-use Rattle.scans.specs.Scan.{compares, holds, first_failing}
-use Rattle.ranges.specs.declared.Ranges.{Ranges}
+use Rattle.scans.specs.Scan.{compares, first_failing}
+use Rattle.ranges.specs.declared.Range.{Range}
 
 -- the least reading that a relation and a constant allow
 abbrev pub least_of : Relation → ℕ → ℕ
@@ -32,40 +35,27 @@ past_of Exactly c = c + 1
 past_of AtLeast c = 4002
 past_of Over c = 4002
 
--- guard k of a table, from 0
-abbrev pub guard_at : Table → ℕ → Guard
-guard_at t k = get_or t.guards k no_guard
+-- the readings that a guard allows
+abbrev pub range_of : Guard → Range
+range_of g = record { clock = g.clock; least = least_of g.relation g.constant; past = past_of g.relation g.constant }
 
--- all guards of a table
-unfoldable pub ranges_of : Table → Ranges
-ranges_of t =
-    record {
-      clocks = tab (λ k. (guard_at t k).clock) 64;
-      leasts = tab (λ k. least_of (guard_at t k).relation (guard_at t k).constant) 64;
-      pasts = tab (λ k. past_of (guard_at t k).relation (guard_at t k).constant) 64;
-    }
+-- those of all guards of a table
+abbrev pub ranges_of : Table → List Range
+ranges_of t = map range_of t.guards
 
 -- ---- readings tested
 
--- whether guard k allows the reading of its clock
-abbrev pub inside : List ℕ → List ℕ → List ℕ → List ℕ → ℕ → Bool
-inside clocks leasts pasts readings k =
-    let x = get_or readings (get_or clocks k 0 - 1) 0 in leb (get_or leasts k 0) x && ltb x (get_or pasts k 0)
+-- whether the reading of its clock is in a range
+abbrev pub inside : List ℕ → Range → Bool
+inside readings r = let x = get_or readings (r.clock - 1) 0 in leb r.least x && ltb x r.past
 
--- the number of the first of m guards, from place k on, that fails a test, when b others are before them; 0 where none does
-unfoldable pub first_outside : (ℕ → Bool) → ℕ → ℕ → ℕ → ℕ
-first_outside test b zero k = 0
-first_outside test b (suc m) k = cond (test k) (first_outside test (suc b) m (k + 1)) (suc b)
+-- the number, from 1, of the first of some guards that does not allow the reading of its clock, where there is one
+abbrev pub first_outside : List ℕ → List Range → Option ℕ
+first_outside readings ranges = option_map (λ k. k + 1) (position (λ r. not (inside readings r)) ranges)
 
--- what the test of guards from one place up to another asks: the arrays' sizes, and clocks 1 to 6
-pub record Asked (clocks leasts pasts readings : List ℕ) (from to : ℕ) : Type 0 where
-  pub order : from ≤ to
-  pub few : to ≤ 64
-  pub clocks_size : length clocks ≡ 64
-  pub leasts_size : length leasts ≡ 64
-  pub pasts_size : length pasts ≡ 64
-  pub readings_size : length readings ≡ 6
-  pub clock : (k : ℕ) → from ≤ k → k < to → (1 ≤ get_or clocks k 0) × (get_or clocks k 0 ≤ 6)
+-- what the test of guards asks: clocks 1 to 6
+abbrev pub Asked : List Range → Type 0
+Asked ranges = All (λ r. (1 ≤ r.clock) × (r.clock ≤ 6)) ranges
 
 -- ---- laws
 
@@ -90,47 +80,47 @@ allowed_compares Over c x h = rw (lt-ltb x 4002 (omega arith)) (and-true (leb (c
     go (yes l) = le-leb (c + 1) x (omega arith) ∙ sym (lt-ltb c x l)
     go (no l) = lt-leb (c + 1) x (omega arith) ∙ sym (le-ltb c x (omega arith))
 
--- how the search goes on from guard k, of those from one place up to another
-module _ (test : ℕ → Bool) (from to k : ℕ) where
-  abbrev left : ℕ
-  left = first_outside test (k - from) (to - k) k
-
-  one : k < to → left ≡ cond (test k) (first_outside test (suc (k - from)) (to - (k + 1)) (k + 1)) (suc (k - from))
-  unfolding first_outside
-  one l = let e : to - k ≡ suc (to - (k + 1)) = omega arith in ap (λ m. first_outside test (k - from) m k) e
-
-  -- it is kept
-  pub outside_later : from ≤ k → k < to → test k ≡ true → first_outside test (k + 1 - from) (to - (k + 1)) (k + 1) ≡ left
-  outside_later h l e =
-      let n : k + 1 - from ≡ suc (k - from) = omega arith in
-      sym (one l ∙ rw e (ap (λ b. first_outside test b (to - (k + 1)) (k + 1)) (sym n)))
-
-  -- it fails
-  pub outside_here : k < to → test k ≡ false → k - from + 1 ≡ left
-  outside_here l e = let n : k - from + 1 ≡ suc (k - from) = omega arith in sym (one l ∙ rw e (sym n))
-
-  -- none is left
-  pub outside_none : to ≤ k → 0 ≡ left
-  unfolding first_outside
-  outside_none l = let e : to - k ≡ 0 = omega arith in sym (ap (λ m. first_outside test (k - from) m k) e)
+number_cond : (b : Bool) (p : ℕ) → unwrap_or (option_map (λ k. k + 1) (cond b (Some p) None)) 0 ≡ cond b (0 + p + 1) 0
+number_cond true p = omega arith
+number_cond false p = refl
 
 -- the number is one of theirs
-pub outside_few : (test : ℕ → Bool) (b m k : ℕ) → first_outside test b m k ≤ b + m
-unfolding first_outside
-outside_few test b zero k = omega arith
-outside_few test b (suc m) k = go (outside_few test (suc b) m (k + 1)) (test k)
+pub outside_few : (r : List ℕ) (rs : List Range) → unwrap_or (first_outside r rs) 0 ≤ length rs
+outside_few r rs = few (position_or_len (λ x. not (inside r x)) rs) (length rs)
   where
-    go : first_outside test (suc b) m (k + 1) ≤ suc b + m → (v : Bool) → cond v (first_outside test (suc b) m (k + 1)) (suc b) ≤ b + suc m
-    go on true = omega (arith, on)
-    go on false = omega arith
+    few : (p n : ℕ) → unwrap_or (option_map (λ k. k + 1) (cond (ltb p n) (Some p) None)) 0 ≤ n
+    few p n = rw (number_cond (ltb p n) p) (grind (arith, nat_tests))
 
--- Where the test of each of some guards says whether it holds, the first that fails is the first that does not hold.
-pub outside_failing : (test : ℕ → Bool) (r : List ℕ) (b : ℕ) (gs : List Guard) (k : ℕ)
-    → ((i : ℕ) → i < length gs → test (k + i) ≡ holds (get_or gs i no_guard) r)
-    → first_outside test b (length gs) k ≡ first_failing b gs r
-unfolding first_outside first_failing
-outside_failing test r b [] k h = refl
-outside_failing test r b (g ∷ gs) k h =
-    let here : test k ≡ holds g r = ap test (omega arith) ∙ h 0 (omega arith) in
-    let rest = outside_failing test r (suc b) gs (k + 1) (λ i l. let e : k + 1 + i ≡ k + suc i = omega arith in ap test e ∙ h (suc i) (omega arith)) in
-    λ i. cond (here i) (rest i) (suc b)
+-- the guards' clocks are those of their ranges
+pub asked_clocks : (gs : List Guard) → ((g : Guard) → Memᴰ g gs → (1 ≤ g.clock) × (g.clock ≤ 6)) → Asked (map range_of gs)
+asked_clocks [] h k d l = absurd (omega arith)
+asked_clocks (g ∷ gs) h zero d l = h g (Memᴰ.head refl)
+asked_clocks (g ∷ gs) h (suc k) d l = asked_clocks gs (λ x m. h x (Memᴰ.tail m)) k d (omega arith)
+
+-- one more before the others
+place_more : (v : Bool) (later n b x : ℕ) → x ≡ cond (ltb later n) (suc b + later + 1) 0
+    → let place = cond (not (not v)) (1 + later) 0 in cond v x (suc b) ≡ cond (ltb place (suc n)) (b + place + 1) 0
+place_more true later n b x e = grind (arith, nat_tests)
+place_more false later n b x e = grind (arith, nat_tests)
+
+-- readings that are held
+module _ (r : List ℕ) where
+  abbrev pub Held : List Guard → Type 0
+  Held gs = (g : Guard) → Memᴰ g gs → get_or r (g.clock - 1) 0 ≤ 4001
+
+  abbrev place : List Guard → ℕ
+  place gs = position_or_len (λ x. not (inside r x)) (map range_of gs)
+
+  failing_place : (b : ℕ) (gs : List Guard) → Held gs → first_failing b gs r ≡ cond (ltb (place gs) (length gs)) (b + place gs + 1) 0
+  unfolding first_failing
+  failing_place b [] h = refl
+  failing_place b (g ∷ gs) h =
+      ap (λ v. cond v (first_failing (suc b) gs r) (suc b)) (sym (allowed_compares g.relation g.constant _ (h g (Memᴰ.head refl))))
+      ∙ place_more (inside r (range_of g)) (place gs) (length gs) b _ (failing_place (suc b) gs (λ x m. h x (Memᴰ.tail m)))
+
+  -- The first guard outside is the first that does not hold.
+  pub outside_failing : (gs : List Guard) → Held gs → unwrap_or (first_outside r (map range_of gs)) 0 ≡ first_failing 0 gs r
+  outside_failing gs h =
+      ap (λ n. unwrap_or (option_map (λ k. k + 1) (cond (ltb (place gs) n) (Some (place gs)) None)) 0) (length-map gs range_of)
+      ∙ number_cond (ltb (place gs) (length gs)) (place gs)
+      ∙ sym (failing_place 0 gs h)

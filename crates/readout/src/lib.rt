@@ -9,35 +9,24 @@ use latest::descend;
 use leads::any_leads;
 use led_latest::lower_led;
 
-// a − b, or 0 where b is larger.
-fn over(a: u64, b: u64) -> u64
-    ensures { result ≡ a - b }
-{
-    if a < b { 0 } else { a - b }
-}
-
 // Sets the times of the last resets before the start to that of the start.
 fn begin(total: usize, clocks: usize, time: &mut [u64])
     requires { total + clocks < length time.old }
     ensures { Began time.old total clocks time.new }
 {
-    let mut j: usize = 0;
-    while j < clocks {
-        time[total + (j + 1)] = time[0];
-        j += 1;
-    }
+    let start = time[0];
+    time[total + 1..total + 1 + clocks].fill(start);
 }
 
 // Writes the starts that the times of the last resets before the start tell to the first places.
+#[tactic(auto, using(basics::specs::Places::written_none, basics::specs::Places::written_more))]
 fn tell(late: &[u64], total: usize, clocks: usize, starts: &mut [u64])
     requires { (total + clocks < length late.now) × (clocks ≤ length starts.old) }
     ensures { starts.new
         ≡ written (λ j. at late.now 0 - at late.now (total + (j + 1))) clocks starts.old }
 {
-    let mut j: usize = 0;
-    while j < clocks {
-        starts[j] = over(late[0], late[total + (j + 1)]);
-        j += 1;
+    for j in 0..clocks {
+        starts[j] = late[0].saturating_sub(late[total + (j + 1)]);
     }
 }
 
@@ -60,7 +49,7 @@ pub fn write_starts(
         time.old time.new starts.old starts.new }
 {
     begin(total, clocks, time);
-    let bottom = descend(low, far, steps, clocks, total, steps, 0, 0, time);
+    descend(low, far, steps, clocks, total, steps, 0, 0, time);
     if !any_leads(leads, steps) {
         tell(time, total, clocks, starts);
         return;
@@ -70,15 +59,14 @@ pub fn write_starts(
 }
 
 // Writes the moments after the start, as times since it, to the first places.
+#[tactic(auto, using(basics::specs::Places::written_none, basics::specs::Places::written_more))]
 pub fn write_moments(time: &[u64], total: usize, times: &mut [u64])
     requires { (total < length time.now) × (total ≤ length times.old)
         × ((i : ℕ) → i ≤ total → at time.now 0 ≤ at time.now i) }
     ensures { times.new
         ≡ written (λ i. at time.now (i + 1) - at time.now 0) total times.old }
 {
-    let mut i: usize = 0;
-    while i < total {
+    for i in 0..total {
         times[i] = time[i + 1] - time[0];
-        i += 1;
     }
 }

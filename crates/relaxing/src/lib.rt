@@ -202,8 +202,7 @@ pub fn passes(
     let n = total + clocks + 1;
     let led = any_leads(leads, steps);
     let mut q: u64 = 1;
-    let mut m: usize = 0;
-    while m < n + TRIES {
+    for m in 0..n + TRIES {
         let near = approach(
             led, m, low, up, leads, far, steps, clocks, total, time, parent, stamp, q,
         );
@@ -218,7 +217,6 @@ pub fn passes(
             return u;
         }
         q = swept.stamp;
-        m += 1;
     }
     n
 }

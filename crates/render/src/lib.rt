@@ -46,7 +46,11 @@ pub fn report(bytes: &[u8], out: &mut [u8]) -> usize
         Read::Refused(refusal) => {
             let fault = refusal.fault;
             let number = table::number(fault);
-            lines::put_line2(out, 0, b"refused ", number, b" at ", refusal.place as u64)
+            lines::put_line(
+                out,
+                0,
+                &[(b"refused ", number), (b" at ", refusal.place as u64)],
+            )
         }
     }
 }

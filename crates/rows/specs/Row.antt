@@ -1,6 +1,8 @@
 -- A running record as a row of eight numbers.
-use Rattle.std.specs.Prelude.{◌≡◌, refl, Bool, true, false, cond, List, [], ◌∷◌, ◌++◌, ℕ, ◌+◌, ◌≤◌, ◌<◌, leb, length, get_or, drop, set}
-use Rattle.std.proofs.Common.{sym, ap, ◌∙◌, arith, le-leb}
+use Rattle.std.specs.Prelude.{◌≡◌, refl, Bool, true, false, cond, List, [], ◌∷◌, ◌++◌, ℕ, ◌+◌, ◌≤◌, ◌<◌, leb, length, get_or, take, drop, set}
+use borrow.Rule.Slice.PartMut.{put_mid}
+use Rattle.std.proofs.lemmas.List.{append_assoc, set_at}
+use Rattle.std.proofs.Common.{sym, ap, ◌∙◌, arith, le-leb, drop-cons, length-take, length-drop, get_or-take, get_or-drop}
 use Rattle.std.proofs.lemmas.List.Edits.{sets-eq}
 use Rattle.std.proofs.lemmas.Bool.{lt-leb}
 use Rattle.basics.specs.Tab.{tab, is_tab}
@@ -51,3 +53,19 @@ record_put row r h size =
   where
     q : List ℕ
     q = r.readings
+
+-- a part of a row read as six numbers
+pub readings_in : (row : List ℕ) → 8 ≤ length row → take 6 (drop 1 row) ≡ tab (λ i. get_or row (i + 1) 0) 6
+readings_in row h =
+    is_tab 6 _ _ (omega (arith, length-take 6 (drop 1 row), length-drop 1 row))
+    (λ i b. let e : 1 + i ≡ i + 1 = omega arith in get_or-take 6 (drop 1 row) i 0 b ∙ get_or-drop 1 row i 0 ∙ ap (λ k. get_or row k 0) e)
+
+-- a store, a part overwritten, and a store put a record in
+pub record_over : (row : List ℕ) (r : Running) → 8 ≤ length row → length r.readings ≡ 6
+    → set (put_mid 1 6 (set row 0 r.step) r.readings) 7 r.counter ≡ with_record row r
+unfolding with_record
+record_over [] r h size = absurd (omega arith)
+record_over (a ∷ row) r h size =
+    ap (λ l. r.step ∷ set (r.readings ++ l) 6 r.counter) (drop-cons row 6 0 (omega arith))
+    ∙ ap (λ l. r.step ∷ l) (set_at r.readings (get_or row 6 0) (drop 7 row) r.counter 6 size ∙ sym (append_assoc r.readings (r.counter ∷ []) (drop 7 row)))
+    ∙ ap (λ b. cond b (numbers_of r ++ drop 8 (a ∷ row)) (a ∷ row)) (row_long (a ∷ row) h)

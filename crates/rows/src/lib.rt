@@ -7,11 +7,13 @@ ghost use Rattle.rows.specs.Row.{record_in, with_record};
 use scans::Running;
 
 // The record that a row holds.
+#[tactic(auto, using(crate::specs::Row::readings_in))]
 pub fn record_in(row: &[u16]) -> Running
     requires { 8 ≤ length row.now }
     ensures { result ≡ record_in row.now }
 {
-    let readings = [row[1], row[2], row[3], row[4], row[5], row[6]];
+    let mut readings = [0; 6];
+    readings.copy_from_slice(&row[1..7]);
     Running {
         step: row[0],
         readings,
@@ -20,17 +22,12 @@ pub fn record_in(row: &[u16]) -> Running
 }
 
 // Puts a record into the first eight places of a row.
+#[tactic(auto, using(crate::specs::Row::record_over))]
 pub fn put_record(row: &mut [u16], r: Running)
     requires { 8 ≤ length row.old }
     ensures { row.new ≡ with_record row.old r }
 {
-    let readings = r.readings;
     row[0] = r.step;
-    row[1] = readings[0];
-    row[2] = readings[1];
-    row[3] = readings[2];
-    row[4] = readings[3];
-    row[5] = readings[4];
-    row[6] = readings[5];
+    row[1..7].copy_from_slice(&r.readings);
     row[7] = r.counter;
 }

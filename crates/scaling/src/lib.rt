@@ -24,10 +24,8 @@ pub fn put_scaled(t: Table, parts: u64, row: &mut [u64; 64])
     ensures { row.new ≡ scaled_of parts t }
 {
     let end = t.ends[t.steps];
-    let mut i: usize = 0;
-    while i < end {
+    for i in 0..end {
         let g = t.guards[i];
         row[i] = times(g.constant, parts);
-        i += 1;
     }
 }

@@ -69,6 +69,7 @@ fn begin(step: usize) -> Progress
 }
 
 // A guard that does not hold, by its number in the table.
+#[tactic(auto, unfolding(crate::specs::Progress::failed))]
 fn fail(p: Progress, number: usize) -> Progress
     ensures { result ≡ failed p number }
 {
@@ -81,6 +82,7 @@ fn fail(p: Progress, number: usize) -> Progress
 }
 
 // The guard whose record begins at a place: it is tested if it is the step's.
+#[tactic(auto, unfolding(crate::specs::Progress::guard_tested))]
 fn test_guard(
     bytes: &[u8],
     at: usize,
@@ -102,6 +104,7 @@ fn test_guard(
 }
 
 // A step of the table is finished: its resets are noted if it is the one asked for, and the guards so far if the next one is.
+#[tactic(auto, unfolding(crate::specs::Progress::step_finished))]
 fn finish_step(step: usize, t: Tally, p: Progress) -> Progress
     requires { t.steps ≤ 16 }
     ensures { result ≡ step_finished step t p }
@@ -212,10 +215,8 @@ fn settle(readings: [u16; 6], clocks: usize, ticks: u16, resets: u32) -> [u16; 6
     ensures { result ≡ settled clocks ticks resets readings }
 {
     let mut out = readings;
-    let mut i: usize = 0;
-    while i < clocks {
-        out[i] = settle_one(out[i], i + 1, ticks, resets);
-        i += 1;
+    for (i, reading) in out[..clocks].iter_mut().enumerate() {
+        *reading = settle_one(*reading, i + 1, ticks, resets);
     }
     out
 }
@@ -247,6 +248,7 @@ fn accept(
 }
 
 // All guards of the step are tested: accepted, or turned away by the first that failed.
+#[tactic(auto, unfolding(crate::specs::Progress::decided_by))]
 fn decide(
     p: Progress,
     clocks: usize,

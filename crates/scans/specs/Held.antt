@@ -1,5 +1,7 @@
 -- Laws of readings that have aged, of readings that are held, one after the other, and of records that a table can go on from.
-use Rattle.std.specs.Prelude.{◌≡◌, refl, Bool, true, false, ◌&&◌, List, ℕ, zero, suc, ◌+◌, ◌≤◌, ◌<◌, leb, get_or}
+use Rattle.std.specs.Prelude.{◌≡◌, refl, Bool, true, false, ◌&&◌, List, ℕ, zero, suc, ◌+◌, ◌≤◌, ◌<◌, leb, length, get_or, take}
+use Rattle.std.specs.List.{list_all}
+use Rattle.std.proofs.lemmas.List.Folds.{list_all_more}
 use Rattle.std.proofs.Math.Path.{sym}
 use Rattle.std.proofs.Common.{ap, ◌∙◌, arith, add-one}
 use Rattle.std.proofs.Math.Bool.{and-false}
@@ -36,6 +38,13 @@ held_not (suc n) i r l h = go (held_not n i r) (ℕ_discrete i n)
 
 pub held_count : (n i : ℕ) (r : List ℕ) → i ≤ n → n ≤ i → held_all i r ≡ true → true ≡ held_all n r
 held_count n i r l h e = let same : i ≡ n = omega arith in sym e ∙ ap (λ m. held_all m r) same
+
+-- each of the first n is tested
+pub held_list : (n : ℕ) (r : List ℕ) → n ≤ length r → held_all n r ≡ list_all (λ x. leb x 4001) (take n r)
+unfolding held_all
+held_list zero r h = refl
+held_list (suc n) r h =
+    rw (held_list n r (omega arith), ← list_all_more (λ x. leb x 4001) r n 0 h, add-one)
 
 -- all are
 held_each : (n : ℕ) (r : List ℕ) → ((i : ℕ) → i < n → get_or r i 0 ≤ 4001) → held_all n r ≡ true

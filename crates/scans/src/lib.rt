@@ -49,27 +49,16 @@ fn held_all(readings: [u16; 6], clocks: usize) -> bool
     requires { clocks ≤ 6 }
     ensures { result ≡ held_all clocks readings }
 {
-    let mut i: usize = 0;
-    while i < clocks {
-        if 4001 < readings[i] {
-            return false;
-        }
-        i += 1;
-    }
-    true
+    readings[..clocks].iter().all(|reading| *reading <= 4001)
 }
 
 // Whether a table of so many clocks and steps can go on from a record.
+#[tactic(auto, unfolding(crate::specs::Scan::fits))]
 pub fn can_go_on(running: Running, clocks: usize, steps: usize) -> bool
     requires { clocks ≤ 6 }
     ensures { result ≡ fits clocks steps running }
 {
-    let step = running.step as usize;
-    if !between(1, step, steps) {
-        return false;
-    }
-    let readings = running.readings;
-    held_all(readings, clocks)
+    between(1, running.step as usize, steps) && held_all(running.readings, clocks)
 }
 
 // The step after a step.

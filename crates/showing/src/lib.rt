@@ -1,7 +1,7 @@
 // The windows of a row of steps: into the two rooms of a panel, and the widest of them.
 #![tactic(auto)]
 
-ghost use Rattle.std.specs.Prelude.{◌≡◌, ◌-◌, length};
+ghost use Rattle.std.specs.Prelude.{◌≡◌, length};
 ghost use Rattle.window.specs.Window.{Small};
 ghost use Rattle.window.specs.Widest.{Chosen};
 ghost use Rattle.window.specs.declared.Span.TheVariants.{Closed};
@@ -10,7 +10,7 @@ ghost use Rattle.showing.specs.Shown.{span_at, window_at, Rows, Room, marked, ti
 ghost use Rattle.showing.specs.Best.{closed_of, better_of, choice_of};
 
 use seconds::seconds;
-use window::{Choice, Interval, Span, Window, in_seconds, place, span_of};
+use window::{Choice, Interval, Span, in_seconds, place, span_of};
 
 // The window of each of n steps, by rows of its first and last moments: a mark in one room, two times in the other.
 pub fn show(
@@ -25,11 +25,9 @@ pub fn show(
     ensures marks { marks.new ≡ marked (window_at parts firsts.now lasts.now) n marks.old }
     ensures times { times.new ≡ timed (window_at parts firsts.now lasts.now) n times.old }
 {
-    let mut i: usize = 0;
-    while i < n {
+    for i in 0..n {
         let w = in_seconds(span_of(firsts[i], lasts[i]), parts);
         place(&mut *marks, &mut *times, i, w);
-        i += 1;
     }
 }
 
@@ -39,11 +37,8 @@ pub fn show_absent(n: usize, marks: &mut [u8], times: &mut [f64])
     ensures marks { marks.new ≡ marked (λ i. Absent) n marks.old }
     ensures times { times.new ≡ timed (λ i. Absent) n times.old }
 {
-    let mut i: usize = 0;
-    while i < n {
-        place(&mut *marks, &mut *times, i, Window::Absent);
-        i += 1;
-    }
+    marks[..n].fill(0);
+    times[..n * 2].fill(0.0);
 }
 
 // The widest closed window so far: whether there is one, its width in parts, and its two times.
@@ -54,37 +49,21 @@ struct Best {
     times: Interval,
 }
 
-// The parts from a first moment to a last one, 0 where that is earlier.
-fn width_of(first: u64, last: u64) -> u64
-    ensures { result ≡ last - first }
-{
-    if last < first {
-        return 0;
-    }
-    last - first
-}
-
 // The widest so far and one closed window more: the first among equals stays.
-#[tactic(auto, using(crate::proofs::Closed::closed_rules))]
 fn with_closed(best: Best, first: u64, last: u64, parts: u64) -> Best
     requires { Small (Closed first last) parts }
     ensures { result ≡ closed_of parts best first last }
 {
-    let width = width_of(first, last);
-    let found = best.found;
-    if found {
-        if width <= best.width {
-            return best;
-        }
+    let width = last.saturating_sub(first);
+    if best.found && width <= best.width {
+        return best;
     }
-    let from = seconds(first, parts);
-    let upto = seconds(last, parts);
     Best {
         found: true,
         width,
         times: Interval {
-            first: from,
-            last: upto,
+            first: seconds(first, parts),
+            last: seconds(last, parts),
         },
     }
 }
@@ -96,8 +75,7 @@ fn better(best: Best, span: Span, parts: u64) -> Best
 {
     match span {
         Span::Closed(a, b) => with_closed(best, a, b, parts),
-        Span::Open(_) => best,
-        Span::Absent => best,
+        Span::Open(_) | Span::Absent => best,
     }
 }
 
@@ -105,10 +83,8 @@ fn better(best: Best, span: Span, parts: u64) -> Best
 fn choice_of(best: Best) -> Choice
     ensures { result ≡ choice_of best }
 {
-    let found = best.found;
-    if found {
-        let times = best.times;
-        return Choice::Widest(times);
+    if best.found {
+        return Choice::Widest(best.times);
     }
     Choice::NoneClosed
 }
@@ -126,10 +102,8 @@ pub fn widest(firsts: &[u64], lasts: &[u64], parts: u64, n: usize) -> Choice
             last: 0.0,
         },
     };
-    let mut i: usize = 0;
-    while i < n {
+    for i in 0..n {
         best = better(best, span_of(firsts[i], lasts[i]), parts);
-        i += 1;
     }
     choice_of(best)
 }

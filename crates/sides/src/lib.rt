@@ -1,11 +1,12 @@
 // Of the guards of each step, the tightest on each clock from above and the tightest from below, as rows of keys.
 #![tactic(auto)]
 
-ghost use Rattle.std.specs.Prelude.{◌≡◌, true, false, cond, eqb, replicate, ◌≤◌, ◌-◌, min};
+ghost use Rattle.std.specs.Prelude.{◌≡◌, true, false, cond, eqb, replicate, ◌≤◌, ◌<◌, ◌+◌, get_or};
 ghost use Rattle.table.specs.Step.{Good};
 ghost use Rattle.scaling.specs.Scaled.{most};
 ghost use Rattle.scaling.specs.Constants.{table_with};
 ghost use Rattle.sides.specs.Sides.{none, side_key};
+ghost use Rattle.sides.specs.Filled.{Filled};
 ghost use Rattle.sides.specs.Keys.{Numbers, keys_of};
 
 use scaling::MOST;
@@ -66,33 +67,28 @@ fn solo_key(upper: bool, g: Guard, constant: u64) -> u64
     if g.second != 0 {
         return NONE;
     }
-    let relation = g.relation;
-    side_key(upper, relation, constant)
+    side_key(upper, g.relation, constant)
 }
 
-// The smaller of two numbers.
-fn smaller(a: u64, b: u64) -> u64
-    ensures { result ≡ min a b }
+// Puts the keys of step s, after those of the steps before it.
+fn put_step(t: &Table, constants: &[u64; 64], upper: bool, s: usize, row: &mut [u64; 112])
+    requires { Good t.now × Numbers t.now constants.now × (s < t.now.steps)
+        × Filled upper (table_with constants.now t.now) row.old s (get_or t.now.ends s 0) }
+    ensures { Filled upper (table_with constants.now t.now) row.new (s + 1) (get_or t.now.ends (s + 1) 0) }
 {
-    if a < b { a } else { b }
+    for i in t.ends[s]..t.ends[s + 1] {
+        let g = t.guards[i];
+        let at = 7 * s + g.clock as usize;
+        row[at] = row[at].min(solo_key(upper, g, constants[i]));
+    }
 }
 
-// Puts the keys of all steps and clocks on a side, where the guards have the constants of a row, into a row without keys. Step s is
-// next, with the guard at place i, in table order.
+// Puts the keys of all steps and clocks on a side, where the guards have the constants of a row, into a row without keys.
 pub fn put_keys(t: Table, constants: &[u64; 64], upper: bool, row: &mut [u64; 112])
     requires { Good t × Numbers t constants.now × (row.old ≡ replicate 112 none) }
     ensures { row.new ≡ keys_of upper (table_with constants.now t) }
 {
-    let mut s: usize = 0;
-    let mut i = t.ends[0];
-    while s < t.steps {
-        if i < t.ends[s + 1] {
-            let g = t.guards[i];
-            let at = 7 * s + g.clock as usize;
-            row[at] = smaller(row[at], solo_key(upper, g, constants[i]));
-            i += 1;
-            continue;
-        }
-        s += 1;
+    for s in 0..t.steps {
+        put_step(&t, constants, upper, s, row);
     }
 }

@@ -33,10 +33,8 @@ fn line(cells: &mut [u64], row: &[u64], to: usize, from: usize, size: usize)
         × ((c : ℕ) → c < size → Coded most (get_or row.now (from + c) 0)) }
     ensures { PartsLine size to from size row.now cells.old cells.new }
 {
-    let mut c: usize = 0;
-    while c < size {
+    for c in 0..size {
         cells[to + c] = in_parts(row[from + c], size as u64);
-        c += 1;
     }
 }
 
@@ -46,10 +44,8 @@ fn left_in_parts(cells: &mut [u64], row: &[u64], place: usize, side: usize)
         × ((a b : ℕ) → a < side → b < side → Coded most (code row.now (place * 196) a b)) }
     ensures { PartsTo side side (place * 196) row.now cells.new }
 {
-    let mut r: usize = 0;
-    while r < side {
+    for r in 0..side {
         line(cells, row, r * 21, place * 196 + r * 14, side);
-        r += 1;
     }
 }
 
@@ -60,11 +56,8 @@ fn fetch(starts: &mut [u64], cells: &[u64], side: usize)
     ensures { starts.new
         ≡ written (λ j. BIAS - at cells.now (j + 1) / 2) (side - 1) starts.old }
 {
-    let clocks = side - 1;
-    let mut j: usize = 0;
-    while j < clocks {
+    for j in 0..side - 1 {
         starts[j] = BASE / 2 - cells[j + 1] / 2;
-        j += 1;
     }
 }
 
@@ -75,6 +68,6 @@ pub fn smallest(starts: &mut [u64], cells: &mut [u64], row: &[u64], place: usize
     ensures { Written side (effect_at row.now (place * 196)) starts.old starts.new }
 {
     left_in_parts(cells, row, place, side);
-    let closed = close(cells, 0, side);
+    close(cells, 0, side);
     fetch(starts, cells, side);
 }

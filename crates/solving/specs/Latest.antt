@@ -13,7 +13,7 @@ use Rattle.runs.specs.declared.Demand.{Demand}
 use Rattle.runs.specs.Demand.{plus, start_demands, any_starts, starts_of}
 use Rattle.runs.specs.Start.{start_upper}
 use Rattle.leads.specs.Leads.{led_by}
-use Rattle.sweeps.specs.Order.{side_of, leads_at, forth_at, forth_of, back_of, return_of, partners_from}
+use Rattle.sweeps.specs.Order.{side_of, leads_at, forth_at, forth_of, back_of, partners_from}
 use Rattle.sweeps.specs.Covered.{among_forth, back_among}
 use Rattle.sweeps.specs.Ends.{ToStart, side_ends, partners_ends, start_listed}
 use Rattle.basics.specs.Places.{at}
@@ -31,7 +31,7 @@ use Rattle.led_latest.specs.Steps.{led_back_edges, led_edges}
 use Rattle.readout.specs.Late.{Began}
 use Rattle.relaxing.specs.Rows.{Rows, sweep, moments, constraints_of, Sound, sound_moments}
 use Rattle.solving.specs.FirstRound.{first_round}
-use Rattle.solving.specs.Solved.{Above, LeastSolution, Latest}
+use Rattle.solving.specs.Solved.{LeastSolution, Latest}
 
 -- the demand that a clock was not last reset after the start
 start_member : (K j n c : ℕ) → j ≤ c → c < j + n → Memᴰ (plus 0 (K + c) 0 false) (start_demands K any_starts j n)

@@ -1,9 +1,8 @@
 -- From the passes to what is written.
-use Rattle.std.specs.Prelude.{◌≡◌, refl, List, ℕ, zero, suc, ◌+◌, ◌*◌, ◌-◌, ◌≤◌, ◌<◌, length, drop, replicate}
-use Rattle.std.proofs.Common.{sym, ap, ◌∙◌, arith}
+use Rattle.std.specs.Prelude.{◌≡◌, refl, List, ℕ, ◌+◌, ◌*◌, ◌-◌, ◌≤◌, ◌<◌, length, replicate}
+use Rattle.std.proofs.Common.{ap, ◌∙◌, arith}
 use Rattle.std.proofs.Math.Decide.{dec_le}
 use Rattle.std.proofs.lemmas.List.{length-replicate, get_or-replicate}
-use Rattle.basics.specs.Tab.{tab, is_tab, length_tab, get_d_tab}
 use Rattle.basics.specs.Places.{at, written, filled, length_written, at_written, at_written_rest}
 use Rattle.paths.specs.Walk.{ring_few}
 use Rattle.paths.specs.Constraint.{Constraint, All}

@@ -1,25 +1,28 @@
 -- The steps of an accepted table by value, as the program fetches their parts.
-use Rattle.std.specs.Prelude.{◌≡◌, refl, Bool, true, cond, List, [], ◌∷◌, length, take, get_or}
+use Rattle.std.specs.Prelude.{◌≡◌, refl, Bool, true, cond, List, [], ◌∷◌, length, take, drop, get_or}
 use Rattle.std.proofs.Common.{sym, subst, ◌∙◌, add-one, get_or-drop, get_or-take}
 use Rattle.std.proofs.Math.Path.{ap}
 use Rattle.std.proofs.Math.Bool.{false}
 use Prim.Native.Nat.{ℕ, zero, suc, ◌+◌, ◌*◌, ◌-◌, ◌≤◌, ◌<◌}
 use native.Mathlib.Omega.{arith}
-use Rattle.std.proofs.Math.Seq.{slice, slice-cons, slice_empty}
+use Rattle.std.proofs.Math.Seq.{slice, slice-cons, slice_empty, drop-cons, drop-length}
+use Rattle.std.proofs.lemmas.List.{drop-take}
+use mathlib.Core.List.{Memᴰ}
 use Rattle.table.specs.declared.Guard.{Guard}
 use Rattle.table.specs.declared.Table.{Table}
 use Rattle.table.specs.declared.Relation.{Relation}
 use Rattle.table.specs.declared.Relation.TheVariants.{Under, AtMost, Exactly, AtLeast, Over}
-use Rattle.table.specs.Step.{resets, step_at, up_of, down_of, up_most, down_most, end_of, FairGuard}
+use Rattle.table.specs.Step.{resets, step_at, up_of, down_of, up_most, down_most, end_of, FairGuard, Good}
+use Rattle.table.specs.Steps.{member_at, step_fair}
 use Rattle.runs.specs.declared.Demand.{Demand}
 use Rattle.runs.specs.Demand.{plus, guard_demands, demands_at, guards_demands}
 use Rattle.runs.specs.Parts.{bit}
 use Rattle.constraints.specs.Pieces.{guard_demand, twice_of}
 use Rattle.constraints.specs.Guards.{guard_once, guard_twice}
-use Rattle.zones.specs.Codes.{BIAS, ZERO, code}
+use Rattle.zones.specs.Codes.{ZERO, code}
 use Rattle.zones.specs.Cells.{tighten_of}
 use Rattle.effects.specs.Demands.{bound_of, each}
-use Rattle.effects.specs.StepDemands.{reset_demands, clock_demands, Short}
+use Rattle.effects.specs.StepDemands.{reset_demands, clock_demands, Uses, Short}
 use Rattle.steps.specs.Puts.{put_of, puts_of, puts_append}
 
 -- ---- Clocks
@@ -123,3 +126,39 @@ pub guards_done : (w k end : ℕ) (gs : List Guard) (l : List ℕ) → ¬ (k < e
     → l ≡ puts_of (guards_demands (slice k end gs) w (λ j. j)) l
 guards_done w k end gs l n h =
     let e : k ≡ end = omega arith in rw (e, slice_empty end gs) (unfold guards_demands puts_of in refl)
+
+-- ---- Guards in turn, as a loop takes them
+
+-- The guards of step i, as they are taken from the table,
+pub guards_taken : (t : Table) (i : ℕ) → get_or t.ends i 0 ≤ get_or t.ends (i + 1) 0
+    → take (get_or t.ends (i + 1) 0 - get_or t.ends i 0) (drop (get_or t.ends i 0) t.guards) ≡ (step_at t i).guards
+unfolding step_at
+guards_taken t i h =
+    let a = get_or t.ends i 0 in
+    let e : a + (get_or t.ends (i + 1) 0 - a) ≡ get_or t.ends (i + 1) 0 = omega arith in
+    sym (drop-take a (get_or t.ends (i + 1) 0 - a) t.guards) ∙ ap (λ n. drop a (take n t.guards)) e
+
+-- each of which is fair and on clocks of the table.
+pub guards_given : (t : Table) (i w : ℕ) → Good t → i < t.steps → Uses w (step_at t i)
+    → (gs : List Guard) → gs ≡ (step_at t i).guards → (k : ℕ) (d : Guard) → k < length gs
+    → FairGuard (get_or gs k d) × ((get_or gs k d).clock < w) × ((get_or gs k d).second < w)
+guards_given t i w good h u gs e k d l =
+    let m = subst (Memᴰ (get_or gs k d)) e (member_at gs k d l) in
+    ((step_fair t good i h).guards _ m, (u.guards _ m).0, (u.guards _ m).1)
+
+-- One guard less is left.
+pub guards_next : (w k : ℕ) (gs : List Guard) (d : Guard) (l z : List ℕ) → k < length gs
+    → z ≡ puts_of (demands_at (get_or gs k d) w (λ j. j)) l
+    → puts_of (guards_demands (drop (k + 1) gs) w (λ j. j)) z ≡ puts_of (guards_demands (drop k gs) w (λ j. j)) l
+unfolding guards_demands
+guards_next w k gs d l z h e =
+    rw (add-one, drop-cons gs k d h, e) (sym (puts_append (demands_at (get_or gs k d) w (λ j. j)) _ l))
+
+-- None is left.
+pub guards_all : (w k : ℕ) (gs : List Guard) (l m : List ℕ) → k ≡ length gs
+    → puts_of (guards_demands (drop k gs) w (λ j. j)) l ≡ puts_of (guards_demands gs w (λ j. j)) m
+    → l ≡ puts_of (guards_demands gs w (λ j. j)) m
+guards_all w k gs l m e h = none ∙ h
+  where
+    none : l ≡ puts_of (guards_demands (drop k gs) w (λ j. j)) l
+    none = rw (e, drop-length gs) (unfold guards_demands puts_of in refl)

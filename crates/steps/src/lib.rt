@@ -81,10 +81,8 @@ fn clocks(cells: &mut [u64], side: usize, t: Table, i: usize)
         ≡ puts_of (plus side 0 0 false ∷ each (side - 1) (clock_demands side (step_at t i))) cells.old }
 {
     tighten(cells, side, 0, ZERO);
-    let mut j = side - 1;
-    while 0 < j {
+    for j in (1..side).rev() {
         clock(cells, side, j, t.resets[7 * i + j]);
-        j -= 1;
     }
 }
 
@@ -93,11 +91,8 @@ fn guards(cells: &mut [u64], side: usize, t: Table, i: usize)
     requires { Good t × (i < t.steps) × Uses side (step_at t i) × (side ≤ 7) × (length cells.old ≡ 441) }
     ensures { cells.new ≡ puts_of (guards_demands (step_at t i).guards side (λ j. j)) cells.old }
 {
-    let end = t.ends[i + 1];
-    let mut k = t.ends[i];
-    while k < end {
-        guard(cells, side, t.guards[k]);
-        k += 1;
+    for g in &t.guards[t.ends[i]..t.ends[i + 1]] {
+        guard(cells, side, *g);
     }
 }
 

@@ -1,20 +1,19 @@
 -- What a pass over the rows of a table checks stands for all demands of k rounds: the same solutions, and loops of these are loops.
-use Rattle.std.specs.Prelude.{◌≡◌, refl, ◌⊎◌, Bool, true, false, get_or}
+use Rattle.std.specs.Prelude.{◌≡◌, ◌⊎◌, true, false, get_or}
 use Rattle.std.proofs.Common.{sym, ap, subst, ◌∙◌, arith, mod-lt}
 use Rattle.std.proofs.Math.Logic.{inl, inr, ⊎_elim}
 use mathlib.Core.List.Memᴰ
 use mathlib.Core.List.{List, [], ◌∷◌, ◌++◌, map, Memᴰ, append_assoc}
 use Prim.Native.Nat.{ℕ, zero, suc, ◌+◌, ◌*◌, ◌%◌, ◌≤◌, ◌<◌}
 use Rattle.std.proofs.Math.Decide.{ℕ_discrete}
-use Rattle.table.specs.Step.{Step, step_at, steps_of, Fairs, Good}
+use Rattle.table.specs.Step.{steps_of}
 use Rattle.table.specs.Steps.{step_member}
-use Rattle.table.specs.declared.Guard.{Guard}
 use Rattle.table.specs.declared.Table.{Table}
 use Rattle.runs.specs.declared.Demand.{Demand}
 use Rattle.runs.specs.declared.Start.{Start}
 use Rattle.runs.specs.Demand.{plus, guards_demands, Starts, moved, start_demands, any_starts, starts_of}
 use Rattle.constraints.specs.Demands.{demands_of}
-use Rattle.constraints.specs.Sized.{Sized, steps_part, starts_part, parts_are}
+use Rattle.constraints.specs.Sized.{Sized, starts_part, parts_are}
 use Rattle.sides.specs.Sides.{Side}
 use Rattle.sides.specs.Covers.{Covers, Stronger, covers_append, covers_same}
 use Rattle.runs.specs.DemandOrder.{guards_demands_same}

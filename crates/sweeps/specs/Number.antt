@@ -1,9 +1,8 @@
 -- How many demands a pass checks.
-use Rattle.std.specs.Prelude.{◌≡◌, Bool, List, [], ◌∷◌, ◌++◌, map, length, get_or}
+use Rattle.std.specs.Prelude.{List, ◌++◌, map, length, get_or}
 use Rattle.std.proofs.Math.Bool.{true, false}
-use Prim.Native.Nat.{ℕ, zero, suc, ◌+◌, ◌*◌, ◌%◌, ◌≤◌, ◌<◌}
+use Prim.Native.Nat.{ℕ, zero, suc, ◌*◌, ◌%◌, ◌≤◌}
 use native.Mathlib.Omega.{arith}
-use Rattle.std.proofs.Common.{mul-le-mul_left, mul-le-mul_right}
 use Rattle.std.proofs.Math.ListN.{length-append}
 use Rattle.std.proofs.lemmas.List.{length-map}
 use Rattle.runs.specs.declared.Start.{Start}
@@ -11,7 +10,7 @@ use Rattle.runs.specs.declared.Start.TheVariants.{MidShift}
 use Rattle.table.specs.Step.{step_at}
 use Rattle.table.specs.declared.Guard.{Guard}
 use Rattle.table.specs.declared.Table.{Table}
-use Rattle.runs.specs.Demand.{plus, guards_demands, moved, start_demands, any_starts, starts_of}
+use Rattle.runs.specs.Demand.{guards_demands, moved, start_demands, any_starts, starts_of}
 use Rattle.constraints.specs.Count.{guards_few}
 use Rattle.constraints.specs.Partner.{partners_are, partners_few, starts_number}
 use Rattle.sides.specs.Sides.{Side}

@@ -3,7 +3,7 @@
 -- an earlier one, and all guards between two clocks; last comes that no clock was last reset after the start.
 -- They are told by rows of numbers, with a place 7 * s + j for step s of a round and clock j: the keys of the tightest guards from
 -- below and from above, and the distances to the last resets.
-use Rattle.std.specs.Prelude.{◌≡◌, Bool, true, false, List, [], ◌∷◌, ◌++◌, map, get_or}
+use Rattle.std.specs.Prelude.{◌≡◌, true, false, List, [], ◌∷◌, ◌++◌, map, get_or}
 use Rattle.std.proofs.Math.Path.{refl, ap}
 use Rattle.std.proofs.Common.{◌∙◌, append-nil, arith}
 use Prim.Native.Nat.{ℕ, zero, suc, ◌+◌, ◌*◌, ◌%◌, ◌<◌}

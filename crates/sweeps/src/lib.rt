@@ -10,6 +10,7 @@ use runs::Demand;
 use sides::TOP_WEAK;
 
 // The demand of a key from above, at moment i on a clock last reset at moment z.
+#[tactic(auto, unfolding(sides::specs::Tight::key_demand))]
 pub fn upper_demand(key: u64, z: usize, i: usize) -> Demand
     ensures { result ≡ key_demand true key z i }
 {
@@ -23,6 +24,7 @@ pub fn upper_demand(key: u64, z: usize, i: usize) -> Demand
 }
 
 // The demand of a key from below.
+#[tactic(auto, unfolding(sides::specs::Tight::key_demand))]
 pub fn lower_demand(key: u64, z: usize, i: usize) -> Demand
     requires { key < none }
     ensures { result ≡ key_demand false key z i }

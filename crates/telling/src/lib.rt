@@ -39,12 +39,10 @@ fn line(bounds: &mut [i64], marks: &mut [u8], row: &[u64], to: usize, from: usiz
         × (size ≤ 14) × ((c : ℕ) → c < size → get_or row.now (from + c) 0 ≤ NONE) }
     ensures { ToldLine to from size row.now bounds.old bounds.new marks.old marks.new }
 {
-    let mut c: usize = 0;
-    while c < size {
+    for c in 0..size {
         let e = row[from + c];
         bounds[to + c] = ticks_of(e);
         marks[to + c] = mark_of(e);
-        c += 1;
     }
 }
 
@@ -54,11 +52,7 @@ pub fn tell(bounds: &mut [i64], marks: &mut [u8], row: &[u64], place: usize, siz
         × (size ≤ 14) × ((a b : ℕ) → a < size → b < size → code row.now (place * 196) a b ≤ NONE) }
     ensures { ToldTo size (place * 196) size row.now bounds.old bounds.new marks.old marks.new }
 {
-    let mut to: usize = 0;
-    let mut r: usize = 0;
-    while r < size {
-        line(bounds, marks, row, to, place * 196 + r * 14, size);
-        to += size;
-        r += 1;
+    for r in 0..size {
+        line(bounds, marks, row, r * size, place * 196 + r * 14, size);
     }
 }

@@ -1,12 +1,13 @@
 // What the test programs share: 01's samples, tables of any length, and printing.
 #![tactic(auto)]
 
-ghost use Rattle.std.specs.Prelude.{◌≡◌, [], ◌∷◌, ◌≤◌, length, nat_abs};
+ghost use Rattle.std.specs.Prelude.{◌≡◌, [], ◌∷◌, ◌≤◌, length};
 ghost use Rattle.testkit.specs.Filled.{repeated_of, byte_of, filled_of, wide_steps};
 
 // The standard output, as a file of the C library.
 const STDOUT_FILENO: i32 = 1;
 
+use std::array::from_fn;
 use table::Refusal;
 
 // A tape of cases: of each a name, a colon, the length of its table, and the table. First 01's samples; x is clock 1, y clock 2.
@@ -88,14 +89,10 @@ pub fn find(text: &[u8], from: usize, byte: u8) -> usize
     requires { from ≤ length text.now }
     ensures { (from ≤ result) × (result ≤ length text.now) }
 {
-    let mut i = from;
-    while i < text.len() {
-        if text[i] == byte {
-            return i;
-        }
-        i += 1;
+    match text[from..].iter().position(|x| *x == byte) {
+        Some(i) => from + i,
+        None => text.len(),
     }
-    i
 }
 
 // Where the name that begins at a place of a tape ends: the next colon, or the end.
@@ -103,13 +100,7 @@ fn colon(tape: &[u8], from: usize) -> usize
     requires { from ≤ length tape.now }
     ensures { (from ≤ result) × (result ≤ length tape.now) }
 {
-    find(tape, from, 58)
-}
-
-fn number_of(byte: u8) -> usize
-    ensures { result ≡ byte }
-{
-    byte as usize
+    find(tape, from, b':')
 }
 
 // Where the case ends whose name ends at a colon.
@@ -121,7 +112,7 @@ fn end(tape: &[u8], colon: usize) -> usize
     if left < 2 {
         return tape.len();
     }
-    let size = number_of(tape[colon + 1]);
+    let size = tape[colon + 1] as usize;
     if left - 2 < size {
         return tape.len();
     }
@@ -133,10 +124,8 @@ fn place(tape: &[u8], case: usize) -> usize
     ensures { result ≤ length tape.now }
 {
     let mut at: usize = 0;
-    let mut k: usize = 1;
-    while k < case {
+    for _ in 1..case {
         at = end(tape, colon(tape, at));
-        k += 1;
     }
     at
 }
@@ -158,6 +147,7 @@ pub fn table<'a>(tape: &'a [u8], case: usize) -> &'a [u8] {
 }
 
 // Byte k of a pattern over and over; 0 where the pattern is empty.
+#[tactic(auto, unfolding(crate::specs::Filled::repeated_of))]
 fn repeated(pattern: &[u8], k: usize) -> u8
     ensures { result ≡ repeated_of pattern.now k }
 {
@@ -169,6 +159,7 @@ fn repeated(pattern: &[u8], k: usize) -> u8
 }
 
 // The byte that has k bytes before it and, with itself, `left` to the end.
+#[tactic(auto, unfolding(crate::specs::Filled::byte_of))]
 fn byte(head: &[u8], pattern: &[u8], tail: &[u8], k: usize, left: usize) -> u8
     requires { 1 ≤ left }
     ensures { result ≡ byte_of head.now pattern.now tail.now k left }
@@ -187,15 +178,15 @@ pub fn fill(out: &mut [u8], head: &[u8], pattern: &[u8], tail: &[u8])
     ensures { out.new
         ≡ filled_of (length out.old) head.now pattern.now tail.now }
 {
-    let mut k: usize = 0;
-    while k < out.len() {
-        out[k] = byte(head, pattern, tail, k, out.len() - k);
-        k += 1;
+    let size = out.len();
+    for k in 0..size {
+        out[k] = byte(head, pattern, tail, k, size - k);
     }
 }
 
 // Fills a room with a table of six clocks up to its tail: each step waits for a clock to read at least 1 and resets it, and
 // the clocks take turns.
+#[tactic(auto, unfolding(crate::specs::Filled::wide_steps))]
 pub fn wide(out: &mut [u8], tail: &[u8])
     ensures { out.new ≡ filled_of (length out.old) (1 ∷ 6 ∷ []) wide_steps tail.now }
 {
@@ -209,35 +200,16 @@ pub fn column(text: &[u8], k: usize) -> u16 {
     if text.len() / 6 <= k {
         return 0;
     }
-    let end = k * 6 + 6;
     let mut value: u32 = 0;
-    let mut at = k * 6;
-    while at < end {
-        value = (value * 10 + (text[at] % 16) as u32) % 65536;
-        at += 1;
+    for digit in &text[k * 6..k * 6 + 6] {
+        value = (value * 10 + (*digit % 16) as u32) % 65536;
     }
     value as u16
 }
 
 // The readings of a text that has a running record as its numbers 1 to 8.
 pub fn readings_in(text: &[u8]) -> [u16; 6] {
-    let a = column(text, 2);
-    let b = column(text, 3);
-    let c = column(text, 4);
-    let d = column(text, 5);
-    let e = column(text, 6);
-    let f = column(text, 7);
-    [a, b, c, d, e, f]
-}
-
-// A number without its sign.
-fn magnitude(x: i64) -> u64
-    ensures { result ≡ nat_abs x }
-{
-    if x < 0 {
-        return (-1 - x) as u64 + 1;
-    }
-    x as u64
+    from_fn(|i| column(text, i + 2))
 }
 
 // This function and those below print on standard output and give nothing back, so that they have no contract: what they
@@ -254,7 +226,7 @@ pub fn signed(x: i64) {
     if x < 0 {
         word(b"-");
     }
-    number(magnitude(x));
+    number(x.unsigned_abs());
 }
 
 // A word, and a number after it.
@@ -276,12 +248,10 @@ pub fn refusal(why: Refusal) {
 }
 
 fn readings(r: [u16; 6]) {
-    field(b", readings ", r[0] as u64);
-    field(b" ", r[1] as u64);
-    field(b" ", r[2] as u64);
-    field(b" ", r[3] as u64);
-    field(b" ", r[4] as u64);
-    field(b" ", r[5] as u64);
+    word(b", readings");
+    for x in r {
+        field(b" ", x as u64);
+    }
 }
 
 // A running record.
@@ -293,15 +263,13 @@ pub fn record(step: u16, r: [u16; 6], counter: u16) {
 
 // A row's cells from a place on, four to a line.
 pub fn cells(row: &[i64], from: usize) {
-    let mut i = from;
-    while i < row.len() {
+    for i in from..row.len() {
         signed(row[i]);
         if i % 4 == 3 {
             word(b"\n");
         } else {
             word(b" ");
         }
-        i += 1;
     }
     word(b"|\n");
 }

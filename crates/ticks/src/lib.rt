@@ -9,16 +9,12 @@ pub fn elapsed(last: u16, counter: u16) -> u16
     ensures is { result ≡ elapsed_of last counter }
     ensures passed { (e : ℕ) → e < 65536 → counter ≡ (last + e) % 65536 → result ≡ e }
 {
-    std::num::wrapping_sub_u16(counter, last)
+    counter.wrapping_sub(last)
 }
 
 // A reading some ticks later.
 pub fn later(reading: u16, ticks: u16) -> u16
     ensures { result ≡ later_of reading ticks }
 {
-    let sum = reading as u32 + ticks as u32;
-    if sum < 4001 {
-        return sum as u16;
-    }
-    4001
+    (reading as u32 + ticks as u32).min(4001) as u16
 }

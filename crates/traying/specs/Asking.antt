@@ -1,7 +1,7 @@
 -- A tray given for bytes: they are refused, or accepted, and then it is given to the table by value.
 use Rattle.std.specs.Prelude.{◌≡◌, refl, Bool, true, false, List, ◌++◌, ℕ, length}
 use Rattle.std.proofs.Math.Path.{sym, ap}
-use Rattle.std.proofs.Common.{◌∙◌, arith}
+use Rattle.std.proofs.Common.{◌∙◌}
 use Rattle.std.proofs.Math.ListN.{drop}
 use Rattle.table.specs.declared.Read.{Read}
 use Rattle.table.specs.declared.Read.TheVariants as read

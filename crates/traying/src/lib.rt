@@ -9,13 +9,14 @@ ghost use Rattle.table.specs.Step.{Good, steps_of};
 ghost use Rattle.ticks.specs.Ticks.{later_of};
 ghost use Rattle.runs.specs.Demand.{Clocks};
 ghost use Rattle.scans.specs.Scan.{aged, fits};
-ghost use Rattle.trays.specs.Tray.{verdicts_by, running_by, verdict_row, accepted_in};
+ghost use Rattle.trays.specs.Tray.{verdicts_by, running_by, verdict_number, verdict_row, accepted_in};
+ghost use Rattle.ranges.specs.Allowed.{ranges_of};
 ghost use Rattle.trays.specs.Answer.{outcome_of, running_of, verdicts_of};
 ghost use Rattle.traying.specs.Moved.{cleared_at, moved_on};
 ghost use Rattle.traying.specs.Given.{scan_by, Given};
 
 use decode::parse;
-use ranges::{first_outside, ranges_of};
+use ranges::{Range, first_outside, ranges_of};
 use scans::{Running, can_go_on, next_step};
 use table::{Fault, Read, Refusal, Table};
 use ticks::{elapsed, later};
@@ -38,10 +39,8 @@ fn age(readings: [u16; 6], clocks: usize, ticks: u16) -> [u16; 6]
     ensures { result ≡ aged clocks ticks readings }
 {
     let mut out = readings;
-    let mut i: usize = 0;
-    while i < 6 {
-        out[i] = age_one(out[i], i, clocks, ticks);
-        i += 1;
+    for (i, reading) in out.iter_mut().enumerate() {
+        *reading = age_one(*reading, i, clocks, ticks);
     }
     out
 }
@@ -59,15 +58,14 @@ fn clear(readings: [u16; 6], resets: &[bool; 119], i: usize) -> [u16; 6]
     ensures { result ≡ cleared_at resets.now i readings }
 {
     let mut out = readings;
-    let mut j: usize = 0;
-    while j < 6 {
-        out[j] = clear_one(out[j], resets[7 * i + j + 1]);
-        j += 1;
+    for (j, reading) in out.iter_mut().enumerate() {
+        *reading = clear_one(*reading, resets[7 * i + j + 1]);
     }
     out
 }
 
 // The record after a scan whose first guard that failed has a number, or 0, on readings that have aged.
+#[tactic(auto, unfolding(crate::specs::Moved::moved_on))]
 fn move_on(
     running: Running,
     counter: u16,
@@ -91,11 +89,22 @@ fn move_on(
     }
 }
 
-// 1 for an accepted scan, by the number of its first guard that failed.
-fn one_accepted(failing: usize) -> usize
-    ensures { (result ≡ cond (eqb failing 0) 1 0) × (result ≤ 1) }
+// One scan by a table: the record after it, and the number of the guard that turns it away, or 0.
+#[tactic(auto, using(crate::specs::Scans::due_places))]
+fn give_one(t: &Table, ranges: &[Range; 64], r: Running, counter: u16) -> (Running, usize)
+    requires { Good t.now × Clocks t.now.clocks (steps_of t.now) × (ranges.now ≡ ranges_of t.now)
+        × (fits t.now.clocks t.now.steps r ≡ true) }
+    ensures { (result.0 ≡ (scan_by t.now r counter).running)
+        × (result.1 ≡ verdict_number (scan_by t.now r counter).verdict) × (result.1 ≤ 64) }
 {
-    if failing == 0 { 1 } else { 0 }
+    let readings = age(r.readings, t.clocks, elapsed(r.counter, counter));
+    let s = r.step as usize;
+    let due = &ranges[t.ends[s - 1]..t.ends[s]];
+    let failing = first_outside(due, &readings).unwrap_or(0);
+    (
+        move_on(r, counter, readings, failing, t.steps, &t.resets),
+        failing,
+    )
 }
 
 // ---- the tray
@@ -109,25 +118,13 @@ fn give(t: Table, running: Running, counters: &[u16], verdicts: &mut [u16]) -> T
         × (verdicts.new ≡ sets verdicts.old 0 (verdict_row (verdicts_by (scan_by t) running counters.now))) }
 {
     let ranges = ranges_of(t);
-    let clocks = ranges.clocks;
-    let leasts = ranges.leasts;
-    let pasts = ranges.pasts;
-    let resets = t.resets;
     let mut r = running;
     let mut accepted: usize = 0;
-    let mut at: usize = 0;
-    while at < counters.len() {
-        let counter = counters[at];
-        let was = r.readings;
-        let readings = age(was, t.clocks, elapsed(r.counter, counter));
-        let s = r.step as usize;
-        let from = t.ends[s - 1];
-        let to = t.ends[s];
-        let failing = first_outside(&clocks, &leasts, &pasts, from, to, &readings);
-        r = move_on(r, counter, readings, failing, t.steps, &resets);
+    for (at, counter) in counters.iter().enumerate() {
+        let (after, failing) = give_one(&t, &ranges, r, *counter);
+        r = after;
         verdicts[at] = failing as u16;
-        accepted += one_accepted(failing);
-        at += 1;
+        accepted += usize::from(failing == 0);
     }
     Trayed {
         outcome: Outcome::Counted(accepted),

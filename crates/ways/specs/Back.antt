@@ -1,5 +1,5 @@
 -- The checks back, from the last step to the first: the guards of each step from above.
-use Rattle.std.specs.Prelude.{◌≡◌, Bool, true, List, [], ◌++◌, ℕ, suc, ◌-◌, ◌%◌, ◌≤◌, ◌<◌}
+use Rattle.std.specs.Prelude.{◌≡◌, Bool, true, List, [], ◌++◌, ℕ, suc, ◌-◌, ◌%◌, ◌<◌}
 use Rattle.std.proofs.Common.{ap, subst, ◌∙◌, mod-lt, arith}
 use Rattle.runs.specs.declared.Demand.{Demand}
 use Rattle.leads.specs.Leads.{Leading}

@@ -1,8 +1,10 @@
 -- The checks forth, from step to step: the order demand of a step, then its guards from below.
 use Rattle.std.specs.Prelude.{◌≡◌, refl, Bool, false, List, [], ◌∷◌, ◌++◌, ℕ, suc, ◌+◌, ◌-◌, ◌%◌, ◌≤◌, ◌<◌, length}
-use Rattle.std.proofs.Common.{subst, add-one, mod-lt, arith}
+use Rattle.std.proofs.Common.{sym, ap, subst, ◌∙◌, add-one, mod-lt, arith}
 use Rattle.runs.specs.declared.Demand.{Demand}
 use Rattle.runs.specs.Demand.{plus}
+use Rattle.constraints.specs.Pieces.{following_of}
+use Rattle.last_resets.specs.Walking.{following_mod}
 use Rattle.sweeps.specs.Order.{side_of, forth_of, forth_none, forth_more}
 use Rattle.paths.specs.State.{State}
 use Rattle.checks.specs.Checks.{Checkable, Checked}
@@ -29,6 +31,11 @@ going_placed keys far L n K s i g e l =
       step = omega (arith, e, mod-lt i g.some, g.steps);
       past = omega (arith, g.few);
     }
+
+-- one step forth is the step after in the round
+pub step_forth : (i s r L : ℕ) → 0 < L → s ≡ i % L → r ≡ following_of s L → r ≡ (i + 1) % L
+step_forth i s r L p e f =
+    f ∙ ap (λ n. following_of n L) e ∙ following_mod i L p ∙ ap (λ n. n % L) (sym (add-one i))
 
 -- from step i on
 abbrev pub forth_from : List ℕ → List ℕ → ℕ → ℕ → ℕ → ℕ → List Demand

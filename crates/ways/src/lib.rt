@@ -57,11 +57,9 @@ pub fn check_partners(
         return w;
     }
     let mut swept = w;
-    let mut clock: usize = 1;
-    while clock <= clocks {
+    for clock in 1..=clocks {
         let partner = partner_of(start, total, clock);
         swept = check_partner(partner, time, parent, stamp, swept);
-        clock += 1;
     }
     swept
 }
@@ -86,15 +84,13 @@ pub fn forth(
         (state time.new parent.new stamp.new) result.raised result.stamp }
 {
     let mut swept = w;
-    let mut i: usize = 0;
     let mut s: usize = 0;
-    while i < total {
+    for i in 0..total {
         let ordered = check(not_after(i + 1, i), time, parent, stamp, swept);
         swept = check_side(
             false, low, far, clocks, total, s, i, time, parent, stamp, ordered,
         );
         s = following(s, steps);
-        i += 1;
     }
     swept
 }
@@ -119,11 +115,9 @@ pub fn back(
         (state time.new parent.new stamp.new) result.raised result.stamp }
 {
     let mut swept = w;
-    let mut i = total;
     let mut s: usize = 0;
-    while 0 < i {
+    for i in (0..total).rev() {
         s = preceding(s, steps);
-        i -= 1;
         swept = check_side(
             true, up, far, clocks, total, s, i, time, parent, stamp, swept,
         );
@@ -147,10 +141,8 @@ pub fn check_starts(
         (state time.new parent.new stamp.new) result.raised result.stamp }
 {
     let mut swept = w;
-    let mut j: usize = 1;
-    while j <= clocks {
+    for j in 1..=clocks {
         swept = check(not_after(0, total + j), time, parent, stamp, swept);
-        j += 1;
     }
     swept
 }

@@ -3,7 +3,6 @@ use Rattle.std.specs.Prelude.{ℕ, ◌+◌, ◌*◌, ◌≤◌, ◌<◌, false, 
 use Rattle.std.specs.Float.{fin}
 use Rattle.seconds.specs.Seconds.{seconds_of}
 use Rattle.window.specs.declared.Span.{Span}
-use Rattle.window.specs.declared.Span.TheVariants as Span
 use Rattle.window.specs.declared.Window.{Window}
 use Rattle.window.specs.declared.Window.TheVariants.{Closed, Open, Absent}
 

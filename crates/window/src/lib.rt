@@ -77,8 +77,7 @@ fn first(w: Window) -> f64
     ensures { result ≡ first_of w }
 {
     match w {
-        Window::Closed(a, _) => a,
-        Window::Open(a) => a,
+        Window::Closed(a, _) | Window::Open(a) => a,
         Window::Absent => 0.0,
     }
 }
@@ -89,8 +88,7 @@ fn last(w: Window) -> f64
 {
     match w {
         Window::Closed(_, b) => b,
-        Window::Open(_) => 0.0,
-        Window::Absent => 0.0,
+        Window::Open(_) | Window::Absent => 0.0,
     }
 }
 

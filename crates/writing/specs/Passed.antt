@@ -1,7 +1,5 @@
 -- The row while the demands of k rounds are written to it: how far it is.
-use Rattle.std.specs.Prelude.{◌≡◌, Bool, true, false, List, ◌++◌, ℕ, ◌+◌, ◌*◌, ◌≤◌, ◌<◌, ℤ, length, get_or, drop}
-use Rattle.std.proofs.Common.{sym, arith}
-use Rattle.std.proofs.lemmas.Bool.{false≢true}
+use Rattle.std.specs.Prelude.{◌≡◌, List, ◌++◌, ℕ, ◌+◌, ◌*◌, ◌≤◌, ◌<◌, ℤ, length, get_or, drop}
 use Rattle.table.specs.Step.{steps_of}
 use Rattle.table.specs.declared.Table.{Table}
 use Rattle.runs.specs.Run.{copies}
@@ -35,36 +33,10 @@ pub record Passed (t : Table) (v : Start) (k : ℕ) (old row : List ℤ) (q i s 
   pub resets : length z ≡ 7
   pub left : Left old 0 (demands_of t v k) row q (steps_due t k i z ++ starts_due t v k)
 
--- and when of step s its order demand is written too, and those of its guards before place g
-pub record Inside (t : Table) (v : Start) (k : ℕ) (old row : List ℤ) (q i s g : ℕ) (z : List ℕ) : Type 0 where
-  pub round : ℕ
+-- the row, which was `old`, when the demands of step s's guards before place g are written to its places from o up to q
+pub record Inside (t : Table) (old row : List ℤ) (o q i s g : ℕ) (z : List ℕ) : Type 0 where
   pub step : s < t.steps
-  pub steps : i ≡ round * t.steps + s
-  pub few : i < k * t.steps
   pub resets : length z ≡ 7
   pub first : get_or t.ends s 0 ≤ g
   pub last : g ≤ get_or t.ends (s + 1) 0
-  pub left : Left old 0 (demands_of t v k) row q (guards_due t s i z g ++ later_due t v k s i z)
-
--- the two, by whether the order demand is next
-pub data Going (t : Table) (v : Start) (k : ℕ) (old row : List ℤ) (q i s g : ℕ) (z : List ℕ) : Bool → Type 0 where
-  outside : Passed t v k old row q i s z → g ≡ get_or t.ends s 0 → Going t v k old row q i s g z true
-  inside : Inside t v k old row q i s g z → Going t v k old row q i s g z false
-
--- ---- the two told apart
-module _ {t : Table} {v : Start} {k : ℕ} {old row : List ℤ} {q i s g : ℕ} {z : List ℕ} where
-  pub as_outside : {b : Bool} → Going t v k old row q i s g z b → b ≡ true
-      → Passed t v k old row q i s z × (g ≡ get_or t.ends s 0)
-  as_outside (outside p e) h = (p, e)
-  as_outside (inside p) h = absurd (false≢true h)
-
-  pub as_inside : {b : Bool} → Going t v k old row q i s g z b → b ≡ false → Inside t v k old row q i s g z
-  as_inside (outside p e) h = absurd (false≢true (sym h))
-  as_inside (inside p) h = p
-
-  pub as_done : {b : Bool} → Going t v k old row q i s g z b → k * t.steps ≤ i → Passed t v k old row q i s z
-  as_done (outside p e) h = p
-  as_done (inside p) h = absurd (omega (arith, p.few))
-
-  pub going_inside : {b : Bool} → b ≡ false → Inside t v k old row q i s g z → Going t v k old row q i s g z b
-  going_inside h p = rw h (inside p)
+  pub left : Left old o (guards_due t s i z (get_or t.ends s 0)) row q (guards_due t s i z g)

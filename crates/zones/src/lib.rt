@@ -18,7 +18,7 @@ pub const BASE: u64 = 576460752303423488;
 pub fn tighter(e: u64, f: u64) -> u64
     ensures { result ≡ min e f }
 {
-    if e < f { e } else { f }
+    e.min(f)
 }
 
 // No bound at all from the first `size` vertices.
@@ -26,12 +26,7 @@ pub fn clear(cells: &mut [u64], size: usize)
     requires { (length cells.old ≡ 441) × (size ≤ 21) }
     ensures { Clear (size * 21) cells.new }
 {
-    let end = size * 21;
-    let mut k: usize = 0;
-    while k < end {
-        cells[k] = NONE;
-        k += 1;
-    }
+    cells[..size * 21].fill(NONE);
 }
 
 // No bounds among the first `size` vertices: the weak zero from each to itself, and none elsewhere.
@@ -40,10 +35,8 @@ pub fn unbounded(cells: &mut [u64], size: usize)
     ensures { Diagonal size size cells.new }
 {
     clear(cells, size);
-    let mut i: usize = 0;
-    while i < size {
+    for i in 0..size {
         cells[i * 22] = ZERO;
-        i += 1;
     }
 }
 
@@ -63,9 +56,5 @@ pub fn copy_line(row: &mut [u64], other: &[u64], to: usize, from: usize, size: u
         × (from + size ≤ length other.now) }
     ensures { LineTo to from size other.now row.old row.new }
 {
-    let mut c: usize = 0;
-    while c < size {
-        row[to + c] = other[from + c];
-        c += 1;
-    }
+    row[to..to + size].copy_from_slice(&other[from..from + size]);
 }

@@ -1,8 +1,5 @@
 -- The sum is the gain of the demand.
-use mathlib.Core.Path.{◌≡◌, sym, ◌∙◌}
-use mathlib.Core.List.{List, [], ◌∷◌}
-use Prim.Native.Nat.{ℕ, ◌+◌}
-use borrow.Author.Rules.{rules}
+use Rattle.std.proofs.Common.{◌≡◌, List, [], ◌∷◌, ℕ, ◌+◌, sym, ◌∙◌, rules}
 use Rattle.runs.specs.declared.Demand.{Demand}
 use Rattle.runs.specs.Parts.{bit}
 use Rattle.paths.specs.Constraint.{constraint}

@@ -1,15 +1,6 @@
-use borrow.Author.Rules.{rules}
-use native.Mathlib.Omega.{arith}
-use Prim.Native.Nat.{◌+◌, ◌-◌}
-use Rattle.sweeps.specs.Order.{side_of}
-use Rattle.checks.specs.SideChecks.{side_from}
-use Rattle.lowering.specs.Lowered.{bounds}
-use Rattle.bounding.specs.Turns.{Turn}
-use Rattle.bounding.specs.Side.{side_first, side_able, side_next, side_last}
+use Rattle.std.proofs.Common.{arith}
+use Rattle.bounding.specs.Side.{side_able, side_next, side_last}
 use Rattle.bounding.proofs.bound_side.Goals as goal
-
-pub loop-j-init : goal.loop-j-init
-loop-j-init c = side_first _ _ _ _ _ _ _ _ c.requires.1
 
 pub bound_key-lowest-requires : goal.bound_key-lowest-requires
 bound_key-lowest-requires c =

@@ -14,8 +14,7 @@ use Rattle.checks.specs.Checks.{one_slight, one_relaxable, checked_one}
 use Rattle.checks.proofs.check.Goals as goal
 
 pub overflow_add-gain : goal.overflow_add-gain
-overflow_add-gain c =
-    let k = one_slight _ _ _ c.requires in search rules
+overflow_add-gain c = let k = one_slight _ _ _ c.requires in search rules
 
 -- the gain is that of the demand
 asked : (d : Demand) (b : ℕ) (s : State) → b ≡ bit d.strict → Relaxable (edge d) s
@@ -27,14 +26,8 @@ given : (d : Demand) (b q : ℕ) (s s' : State) (r : Bool) → b ≡ bit d.stric
 given d b q s s' r e h = rw e at h
 
 pub relax-up-requires : goal.relax-up-requires
-relax-up-requires c =
-    let s = c in
-    asked c.args.d _ _ c.bit_of.ensures (one_relaxable _ _ _ c.requires)
+relax-up-requires c = asked c.args.d _ _ c.bit_of.ensures (one_relaxable _ _ _ c.requires)
 
 pub returns : goal.returns
 returns c =
-    let r = c in
-    let b = c in
-    let d = c.args.d in
-    checked_one d _ _ _ _ _ _ _ (given d _ _ _ _ _ c.bit_of.ensures c.relax-up.ensures) c.either.ensures
-    refl
+    checked_one c.args.d _ _ _ _ _ _ _ (given c.args.d _ _ _ _ _ c.bit_of.ensures c.relax-up.ensures) (search rules) refl

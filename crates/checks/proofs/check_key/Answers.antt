@@ -1,5 +1,4 @@
 -- A key of no guard has no demand, and any other has one.
-use borrow.Author.Rules.{rules}
 use native.Mathlib.Omega.{arith}
 use Rattle.checks.specs.KeyChecks.{none_checked, some_able, some_checked}
 use Rattle.checks.proofs.check_key.Goals as goal
@@ -9,12 +8,10 @@ returns-then-key-ge-NONE c = none_checked _ c.args.key _ _ c.if-key-ge-NONE.true
 
 pub check-requires : goal.check-requires
 check-requires c =
-    let s = c in
     some_able c.args.upper c.args.key _ _ (omega (arith, c.if-key-ge-NONE.false)) _ _ c.last_reset-z.ensures
     c.key_demand.ensures _ _ c.requires.3
 
 pub returns : goal.returns
 returns c =
-    let s = c in
     some_checked c.args.upper c.args.key _ _ (omega (arith, c.if-key-ge-NONE.false)) _ _ c.last_reset-z.ensures
     c.key_demand.ensures _ _ _ _ _ _ c.check.ensures

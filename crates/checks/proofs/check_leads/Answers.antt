@@ -1,36 +1,22 @@
-use mathlib.Core.Path.{◌≡◌, refl}
-use Prim.Native.Nat.{◌+◌, ◌-◌, ◌≤◌}
-use lib.ListN.{get_or}
-use Rattle.sweeps.specs.Order.{leads_at}
-use Rattle.leads.specs.Leads.{led_by}
-use Rattle.paths.specs.State.{state}
-use Rattle.checks.specs.Turns.{Turn, turn_size}
-use Rattle.checks.specs.Led.{leads_from}
 use Rattle.checks.specs.LedChecks.{led_first, led_able, led_next, led_last}
-use borrow.Author.Rules.{rules}
 use native.Mathlib.Omega.{arith}
 use Rattle.checks.proofs.check_leads.Goals as goal
 
 pub loop-k-init : goal.loop-k-init
-loop-k-init c =
-    let s = c in (c.requires.0.order, refl, led_first _ _ _ _ _ _ _ _ c.requires.1)
+loop-k-init c = led_first _ _ _ _ _ _ _ _ c.requires.1
 
 pub check_lead-swept-requires : goal.check_lead-swept-requires
 check_lead-swept-requires c =
-    let s = c in
     let l = c.loop-k in
     let q = c.requires.0 in
-    (q.reached, q.few, q.step, q.past, led_able _ _ _ _ _ _ _ _ q l.k _ _ _ l.invariant.2 c.loop-k-test.true)
+    (q.reached, q.few, q.step, q.past, led_able _ _ _ _ _ _ _ _ q l.k _ _ _ l.invariant c.loop-k-test.true)
 
 pub loop-k-preserved : goal.loop-k-preserved
 loop-k-preserved c =
-    let s = c in
     let l = c.loop-k in
-    let t = c.loop-k-test.true in
-    (omega (arith, t), l.invariant.1, led_next _ _ _ _ _ _ _ _ c.requires.0 l.k _ _ _ l.invariant.2 t _ _ _ c.check_lead-swept.ensures)
+    led_next _ _ _ _ _ _ _ _ c.requires.0 l.k _ _ _ l.invariant c.loop-k-test.true _ _ _ c.check_lead-swept.ensures
 
 pub returns : goal.returns
 returns c =
-    let s = c in
     let l = c.loop-k in
-    led_last _ _ _ _ _ _ _ _ c.requires.0 l.k _ _ _ l.invariant.2 (omega (arith, l.invariant.0, c.loop-k-test.false))
+    led_last _ _ _ _ _ _ _ _ c.requires.0 l.k _ _ _ l.invariant (omega (arith, c.requires.0.order, c.loop-k-test.false))

@@ -1,22 +1,12 @@
 -- The invariant: the guards from place k on are left.
-use mathlib.Core.Path.{◌≡◌, refl}
-use Prim.Native.Nat.{◌+◌, ◌-◌, ◌≤◌}
-use lib.ListN.{get_or}
 use Rattle.sweeps.specs.Order.{leads_at}
 use Rattle.leads.specs.Leads.{led_by}
 use Rattle.paths.specs.State.{state}
-use Rattle.checks.specs.Turns.{Turn, turn_size}
+use Rattle.checks.specs.Turns.{Turn}
 use Rattle.checks.specs.Led.{leads_from}
-use Rattle.checks.specs.LedChecks.{led_first, led_able, led_next, led_last}
-use borrow.Author.Rules.{rules}
-use native.Mathlib.Omega.{arith}
 use Rattle.checks.proofs.check_leads.Given as goal
 
 abbrev pub invariant-loop-k : goal.invariant-loop-k
 invariant-loop-k l =
-    (l.k ≤ l.end) × (l.end ≡ get_or l.leads (l.s + 1) 0)
-    × Turn (leads_at (led_by l.leads) l.far l.total l.s l.i) l.initial.swept.raised l.initial.swept.stamp (state l.initial.time l.initial.parent l.initial.stamp)
+    Turn (leads_at (led_by l.leads) l.far l.total l.s l.i) l.initial.swept.raised l.initial.swept.stamp (state l.initial.time l.initial.parent l.initial.stamp)
     (leads_from l.leads l.far l.total l.s l.i l.k) l.swept.raised l.swept.stamp (state l.time l.parent l.stamp)
-
-abbrev pub decreases-loop-k : goal.decreases-loop-k
-decreases-loop-k l = l.end - l.k

@@ -1,10 +1,5 @@
-use borrow.Author.Rules.{rules}
 use native.Mathlib.Omega.{arith}
-use Prim.Native.Nat.{◌+◌, ◌-◌}
-use Rattle.sweeps.specs.Order.{side_of}
-use Rattle.paths.specs.State.{state}
-use Rattle.checks.specs.Turns.{Turn, turn_size}
-use Rattle.checks.specs.SideChecks.{side_from, side_first, side_able, side_next, side_last}
+use Rattle.checks.specs.SideChecks.{side_first, side_able, side_next, side_last}
 use Rattle.checks.proofs.check_side.Goals as goal
 
 pub loop-j-init : goal.loop-j-init
@@ -28,3 +23,10 @@ loop-j-preserved c =
 
 pub returns : goal.returns
 returns c = side_last _ _ _ _ _ _ _ _ _ _ _ _ _ _ c.loop-j.invariant (omega (arith, c.loop-j-test.false))
+
+pub returns-2 : goal.returns-2
+returns-2 c =
+    let l = c.loop-j in
+    side_last _ _ _ _ _ _ _ _ _ _ _ _ _ _
+    (side_next _ _ _ _ _ _ _ _ _ _ l.j _ _ _ l.invariant (omega (arith, c.loop-j-test.true)) _ _ _ c.check_key-swept.ensures)
+    (omega arith)

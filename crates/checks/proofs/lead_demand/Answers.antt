@@ -1,6 +1,4 @@
 -- `checks::lead_demand` meets its contract: what the constant adds or takes off, by its sign.
-use borrow.Author.Rules.{rules}
-use native.Mathlib.Omega.{arith}
 use Rattle.checks.specs.LeadChecks.{lead_plus, lead_minus}
 use Rattle.checks.proofs.lead_demand.Goals as goal
 

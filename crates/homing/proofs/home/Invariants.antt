@@ -1,11 +1,7 @@
 -- The invariant: some of the steps' demands are checked, and s is the step of the round that step i is.
-use mathlib.Core.Path.{sym}
-use borrow.Author.Rules.{rules}
-use native.Mathlib.Nat.{mod-eq_of_lt}
-use native.Mathlib.Omega.{arith}
 use Prim.Native.Nat.{◌-◌}
 use Rattle.paths.specs.State.{state}
-use Rattle.homing.specs.Homing.{Homeward, homeward_first, homeward_went, homeward_size, homeward_able, homeward_next}
+use Rattle.homing.specs.Homing.{Homeward}
 use Rattle.homing.proofs.home.Given as goal
 
 abbrev pub invariant-loop-i : goal.invariant-loop-i

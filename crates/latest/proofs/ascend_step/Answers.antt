@@ -1,11 +1,6 @@
 -- The side of the step lowers nothing; or it does, and the checks back from it may follow.
-use mathlib.Core.Path.{sym, ap, ◌∙◌}
-use borrow.Author.Rules.{rules}
-use native.Mathlib.Numerals.{add-one}
-use native.Mathlib.Omega.{arith}
-use Prim.Native.Nat.{◌%◌}
-use Rattle.constraints.specs.Pieces.{following_of}
-use Rattle.last_resets.specs.Walking.{following_mod}
+use Rattle.std.proofs.Common.{arith}
+use Rattle.last_resets.specs.Walking.{step_on}
 use Rattle.ways.specs.Forth.{going_placed}
 use Rattle.latest.specs.Ascent.{upper_able, stepped_quiet, stepped_hit, back_able, stepped_mended}
 use Rattle.latest.proofs.ascend_step.Goals as goal
@@ -22,26 +17,13 @@ pub returns-then-left-eq0 : goal.returns-then-left-eq0
 returns-then-left-eq0 c =
     stepped_hit _ _ _ _ _ _ c.args.i c.args.s c.requires.2 c.requires.3 c.args.hit _ c.requires.4 _ _ _ c.requires.4.few c.bound_side-lowest.ensures (omega (arith, c.if-lowest-ge-NEVER.false))
 
-pub following-after-requires : goal.following-after-requires
-following-after-requires c = let b = c in (going_placed _ _ _ _ _ _ _ c.requires.1 c.requires.3 c.requires.2).step
-
 pub descend-next-requires : goal.descend-next-requires
-descend-next-requires c =
-    let b = c in (
-      c.requires.0,
-      omega (arith, c.requires.2),
-      c.following-after.ensures
-          ∙ ap (λ n. following_of n c.args.steps) c.requires.3
-          ∙ following_mod c.args.i c.args.steps c.requires.0.some
-          ∙ ap (λ n. n % c.args.steps) (sym (add-one c.args.i)),
-      back_able _ _ _ _ _ _ c.args.i c.args.s c.requires.2 c.requires.3 c.args.hit _ c.requires.4 _ _ _ c.requires.4.few c.bound_side-lowest.ensures,
-    )
-
-pub overflow_add-i-3 : goal.overflow_add-i-3
-overflow_add-i-3 c = let b = c in omega (arith, c.requires.2, c.requires.0.few)
-
-pub overflow_sub-i : goal.overflow_sub-i
-overflow_sub-i c = omega (arith, c.descend-next.ensures.bottom)
+descend-next-requires c = (
+  c.requires.0,
+  omega (arith, c.requires.2),
+  step_on c.args.i _ _ _ c.requires.0.some c.requires.3 c.following-after.ensures,
+  back_able _ _ _ _ _ _ c.args.i c.args.s c.requires.2 c.requires.3 c.args.hit _ c.requires.4 _ _ _ c.requires.4.few c.bound_side-lowest.ensures,
+)
 
 pub returns : goal.returns
 returns c =

@@ -1,19 +1,8 @@
-use borrow.Author.Rules.{rules}
-use native.Mathlib.Omega.{arith}
-use Prim.Native.Nat.{◌-◌}
+use Rattle.std.proofs.Common.{arith}
 use Rattle.ways.specs.Forth.{going_placed}
 use Rattle.ways.specs.Back.{step_back}
-use Rattle.latest.specs.Descent.{Descending, descending_first, order_able, lower_able, descending_next, descending_last, descending_done}
+use Rattle.latest.specs.Descent.{order_able, lower_able, descending_next}
 use Rattle.latest.proofs.descend.Goals as goal
-
-pub loop-i-init : goal.loop-i-init
-loop-i-init c = let p = c.requires in descending_first _ _ _ _ _ _ _ _ _ p.3 p.2
-
-pub returns-then-i-lowest : goal.returns-then-i-lowest
-returns-then-i-lowest c = descending_done _ _ _ _ _ _ _ _ _ _ _ _ c.loop-i.invariant c.if-i-lowest.true
-
-pub preceding-s-requires : goal.preceding-s-requires
-preceding-s-requires c = c.requires.0.some
 
 pub bound-ordered-requires : goal.bound-ordered-requires
 bound-ordered-requires c =
@@ -41,6 +30,3 @@ loop-i-preserved c =
     let e = step_back l.i _ _ _ p.0.some (omega (arith, t)) l.invariant.step c.preceding-s.ensures in
     descending_next _ _ _ _ _ _ _ _ _ l.i _ _ l.invariant p.1 _ (omega (arith, t)) _ e _ c.not_after.ensures _ _ c.bound-ordered.ensures
     _ _ c.bound_side-lowest.ensures
-
-pub returns : goal.returns
-returns c = descending_last _ _ _ _ _ _ _ _ _ _ _ _ c.loop-i.invariant (omega (arith, c.loop-i-test.false))

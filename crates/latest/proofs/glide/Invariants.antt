@@ -1,9 +1,6 @@
 -- The invariant: what is lowered keeps all solutions, and i is a moment.
-use mathlib.Core.Path.{refl}
-use borrow.Author.Rules.{rules}
-use native.Mathlib.Omega.{arith}
 use Prim.Native.Nat.{◌+◌, ◌≤◌}
-use Rattle.lowering.specs.Outcome.{Falling, falling_first, falling_then}
+use Rattle.lowering.specs.Outcome.{Falling}
 use Rattle.latest.specs.Steps.{step_edges}
 use Rattle.latest.proofs.glide.Given as goal
 

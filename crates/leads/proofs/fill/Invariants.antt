@@ -1,11 +1,8 @@
--- `leads::fill` meets its contract: the steps up to step s are counted, and the leads before guard i have their numbers.
-use Prim.Native.Nat.{◌+◌, ◌-◌}
+-- `leads::fill` meets its contract: the leads of the steps before step s have their numbers, and these steps are counted.
+use Rattle.std.proofs.Common.{get_or}
 use Rattle.scaling.specs.Constants.{table_with}
 use Rattle.leads.specs.Filling.{Filling}
 use Rattle.leads.proofs.fill.Given as goal
 
 abbrev pub invariant-loop-s : goal.invariant-loop-s
-invariant-loop-s l = Filling (table_with l.constants l.t) l.row l.s l.i l.count
-
-abbrev pub decreases-loop-s : goal.decreases-loop-s
-decreases-loop-s l = 82 - (l.s + l.i)
+invariant-loop-s l = Filling (table_with l.constants l.t) l.row l.s (get_or l.t.ends l.s 0) l.count

@@ -1,11 +1,7 @@
 -- The invariant: some of the steps' demands are checked since the way forth, and i is a moment.
-use mathlib.Core.Path.{refl, sym}
-use borrow.Author.Rules.{rules}
-use native.Mathlib.Nat.{mod-eq_of_lt}
-use native.Mathlib.Omega.{arith}
 use Prim.Native.Nat.{◌-◌}
 use Rattle.paths.specs.State.{state}
-use Rattle.leaving.specs.Leaving.{Outward, first_able, outward_first, outward_went, outward_size, outward_able, outward_next}
+use Rattle.leaving.specs.Leaving.{Outward}
 use Rattle.leaving.proofs.out.Given as goal
 
 abbrev pub invariant-loop-i : goal.invariant-loop-i

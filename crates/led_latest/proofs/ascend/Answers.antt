@@ -1,29 +1,7 @@
-use mathlib.Core.Path.{sym}
-use native.Mathlib.Nat.{mod-eq_of_lt}
-use native.Mathlib.Omega.{arith}
-use Prim.Native.Nat.{◌+◌, ◌*◌, ◌-◌}
-use Rattle.lowering.specs.Outcome as outcome
-use Rattle.leads.specs.Leads.{led_by}
-use Rattle.sweeps.specs.Order.{back_at}
-use Rattle.led_latest.specs.Steps.{led_back_edges}
-use Rattle.latest.specs.Ascending.{Ascending, ascending_first, ascending_next, ascending_less}
+use Rattle.std.proofs.Common.{arith}
+use Rattle.latest.specs.Ascending.{ascending_next, ascending_less}
 use Rattle.led_latest.specs.Ascent.{ascending_last}
 use Rattle.led_latest.proofs.ascend.Goals as goal
-
-pub loop-i-init : goal.loop-i-init
-loop-i-init c = let p = c.requires in ascending_first _ _ _ _ _ _ _ _ p.3 (sym (mod-eq_of_lt p.0.some))
-
-pub ascend_step-way-requires : goal.ascend_step-way-requires
-ascend_step-way-requires c =
-    let p = c.requires in
-    let l = c.loop-i in
-    (p.0, p.1, p.2, c.loop-i-test.true, l.invariant.step, l.invariant.falling.bounded)
-
-pub step_of-s-requires : goal.step_of-s-requires
-step_of-s-requires c =
-    let p = c.requires in
-    let t = c.loop-i-test.true in
-    (p.0.some, p.0.steps, omega (arith, t, p.0.few), c.loop-i.invariant.step)
 
 pub loop-i-smaller : goal.loop-i-smaller
 loop-i-smaller c =

@@ -1,14 +1,10 @@
 -- The invariant: the demands of the steps before i are checked where nothing was lowered, and s is the step of the round that step i is.
-use mathlib.Core.Path.{sym}
-use native.Mathlib.Nat.{mod-eq_of_lt}
-use native.Mathlib.Omega.{arith}
-use Prim.Native.Nat.{◌+◌, ◌*◌, ◌-◌}
+use Rattle.std.proofs.Common.{◌+◌, ◌*◌, ◌-◌}
 use Rattle.lowering.specs.Outcome as outcome
 use Rattle.leads.specs.Leads.{led_by}
 use Rattle.sweeps.specs.Order.{back_at}
 use Rattle.led_latest.specs.Steps.{led_back_edges}
-use Rattle.latest.specs.Ascending.{Ascending, ascending_first, ascending_next, ascending_less}
-use Rattle.led_latest.specs.Ascent.{ascending_last}
+use Rattle.latest.specs.Ascending.{Ascending}
 use Rattle.led_latest.proofs.ascend.Given as goal
 
 abbrev pub invariant-loop-i : goal.invariant-loop-i

@@ -1,10 +1,7 @@
 -- The invariant: where there is no wish to go on, all demands hold.
-use mathlib.Core.Path.{sym}
 use Rattle.leads.specs.Leads.{led_by}
 use Rattle.led_latest.specs.Steps.{led_back_edges}
-use Rattle.latest.specs.Settle.{Settling, measure, settling_begin, forth_able, all_able, settling_next, settling_less, settling_done}
-use borrow.Author.Rules.{rules}
-use native.Mathlib.Omega.{arith}
+use Rattle.latest.specs.Settle.{Settling, measure}
 use Rattle.led_latest.proofs.lower_led.Given as goal
 
 abbrev pub invariant-loop-hit : goal.invariant-loop-hit

@@ -1,17 +1,6 @@
 -- With guards between two clocks, or without.
-use borrow.Author.Rules.{rules}
-use native.Mathlib.Omega.{arith}
 use Rattle.led_latest.specs.Steps.{plain_bounded, plain_greatest}
 use Rattle.led_latest.proofs.settle_all.Goals as goal
-
-pub any_leads-requires : goal.any_leads-requires
-any_leads-requires c = let p = c.requires in (p.2.size, omega (arith, p.0.steps))
-
-pub lower_led-requires : goal.lower_led-requires
-lower_led-requires c = c.requires
-
-pub returns-then-any_leads : goal.returns-then-any_leads
-returns-then-any_leads c = c.lower_led.ensures
 
 pub settle-requires : goal.settle-requires
 settle-requires c =

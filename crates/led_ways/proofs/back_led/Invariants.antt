@@ -1,6 +1,6 @@
 -- The invariant: the demands of the first i steps are left, and s is the step of the round that step i is.
 use mathlib.Core.Path.{◌≡◌}
-use Prim.Native.Nat.{◌%◌, ◌≤◌}
+use Prim.Native.Nat.{◌%◌}
 use Rattle.leads.specs.Leads.{led_by}
 use Rattle.sweeps.specs.Order.{back_of}
 use Rattle.paths.specs.State.{state}
@@ -12,7 +12,3 @@ invariant-loop-i l =
     Turn (back_of l.up (led_by l.leads) l.far l.steps l.clocks l.total l.total) l.initial.swept.raised l.initial.swept.stamp (state l.initial.time l.initial.parent l.initial.stamp)
     (back_of l.up (led_by l.leads) l.far l.steps l.clocks l.total l.i) l.swept.raised l.swept.stamp (state l.time l.parent l.stamp)
     × (l.s ≡ l.i % l.steps)
-    × (l.i ≤ l.total)
-
-abbrev pub decreases-loop-i : goal.decreases-loop-i
-decreases-loop-i l = l.i

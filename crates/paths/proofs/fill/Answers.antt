@@ -1,22 +1,14 @@
-use mathlib.Core.Path.{◌≡◌, refl}
-use Prim.Native.Nat.{◌-◌, ◌≤◌}
-use lib.ListN.{length, length-set}
-use Rattle.basics.specs.Places.{filled, written_none, written_more}
-use borrow.Author.Rules.{rules}
-use native.Mathlib.Omega.{arith}
+-- A row of n times v is the list whose places are v.
+use Rattle.std.proofs.Common.{◌≡◌, ◌∙◌, ap, List, ◌++◌, ℕ, drop, replicate, rules}
+use Rattle.std.proofs.lemmas.List.{length-replicate, get_or-replicate}
+use Rattle.basics.specs.Tab.{is_tab}
+use Rattle.basics.specs.Places.{written, filled}
 use Rattle.paths.proofs.fill.Goals as goal
 
-pub loop-i-init : goal.loop-i-init
-loop-i-init c = (omega arith, refl, written_none _ _)
-
-pub loop-i-preserved : goal.loop-i-preserved
-loop-i-preserved c = (
-  omega arith,
-  simp length-set c.loop-i.invariant.1,
-  written_more _ _ _ _ _ (omega arith) refl c.loop-i.invariant.2,
-)
+filled_by : (v n : ℕ) (l r : List ℕ) → r ≡ replicate n v → r ++ drop n l ≡ filled v n l
+unfolding written
+filled_by v n l r e =
+    ap (λ (x : List ℕ). x ++ drop n l) (e ∙ is_tab n (λ k. v) (replicate n v) (length-replicate n v) (λ k h. get_or-replicate n k v 0 h))
 
 pub returns : goal.returns
-returns c =
-    let e : c.loop-i.i ≡ c.args.n = omega arith in
-    rw (← e) c.loop-i.invariant.2
+returns c = filled_by _ _ _ _ (search rules)

@@ -1,8 +1,7 @@
 -- The two ways of the test are the two of `relax_of`.
-use mathlib.Core.Path.{sym}
+use Rattle.std.proofs.Common.{sym}
 use borrow.Author.Tests.{lt-ltb, le-ltb}
 use Rattle.paths.specs.State.{relax_hit, relax_miss}
-use borrow.Author.Rules.{rules}
 use Rattle.paths.proofs.relax.Goals as goal
 
 pub returns-then-x-loss : goal.returns-then-x-loss

@@ -1,11 +1,9 @@
 -- The invariant: the first k places are the first k vertices of the walk, which has not come round before.
-use mathlib.Core.Path.{◌≡◌, refl, sym, ap, ◌∙◌, subst}
+use mathlib.Core.Path.{◌≡◌}
 use Prim.Native.Nat.{ℕ, ◌-◌, ◌≤◌, ◌<◌}
-use native.Mathlib.Numerals.{add-one}
-use lib.ListN.{length, length-set}
-use Rattle.paths.specs.Walk.{iter, Ring, ring_more, ring_end}
-use Rattle.basics.specs.Places.{at, written, written_none, written_more, written_over}
-use native.Mathlib.Omega.{arith}
+use lib.ListN.{length}
+use Rattle.paths.specs.Walk.{iter, Ring}
+use Rattle.basics.specs.Places.{at, written}
 use Rattle.paths.proofs.write_cycle.Given as goal
 
 abbrev pub invariant-loop-x : goal.invariant-loop-x

@@ -1,33 +1,30 @@
-use mathlib.Core.Path.{◌≡◌, ap, ◌∙◌}
-use mathlib.Core.Bool.{cond}
-use lib.Dec.{ltb}
-use lib.ListN.{length, get_or}
-use Rattle.basics.specs.Tab.{tab}
-use Rattle.basics.specs.Mapped.{mapped_none, mapped_more, mapped_first}
+use Rattle.std.proofs.Common.{◌≡◌, ℕ, ◌+◌, ◌-◌, ◌≤◌, List, ◌++◌, length, get_or, take, drop, ap, ◌∙◌, arith, rules, length-append, length-take, length-drop, get_or-take, get_or-drop}
+use Rattle.std.proofs.lemmas.List.{get_or_append_left, get_or-append_right}
+use Rattle.basics.specs.Mapped.{MappedTo, mapped_first}
 use Rattle.scanning.specs.Progress.{settled}
-use native.Mathlib.Omega.{arith}
-use borrow.Author.Rules.{rules}
 use Rattle.scanning.proofs.settle.Invariants.{settling}
 use Rattle.scanning.proofs.settle.Goals as goal
 
-pub loop-i-init : goal.loop-i-init
-loop-i-init c = (omega arith, mapped_none (settling c.args.ticks c.args.resets) c.args.readings)
-
-pub loop-i-preserved : goal.loop-i-preserved
-loop-i-preserved c =
-    let l = c.loop-i in
-    let s = c.args in
-    let size : length s.readings ≡ 6 = search rules in (
-      omega (arith, c.loop-i-test.true),
-      mapped_more (settling s.ticks s.resets) s.readings l.i c.settle_one.result l.out
-          (omega (arith, c.loop-i-test.true, size)) l.invariant.1 c.settle_one.ensures,
-    )
+-- the first n are replaced, and put before the others
+front : (f : ℕ → ℕ → ℕ) (was l : List ℕ) (n i : ℕ) → n ≤ length was → n ≤ i → MappedTo f (take n was) i l → MappedTo f was n (l ++ drop n was)
+front f was l n i few h m =
+    record {
+      size = omega (arith, long, length-append l (drop n was), length-drop n was);
+      done = λ j b.
+          get_or_append_left l (drop n was) 0 j (omega (arith, long)) ∙ m.done j (omega arith) ∙ ap (f j) (get_or-take n was j 0 b);
+      rest = λ j b.
+          let e : n + (j - n) ≡ j = omega arith in
+          get_or-append_right l (drop n was) n j 0 long b ∙ get_or-drop n was (j - n) 0 ∙ ap (λ k. get_or was k 0) e;
+    }
+  where
+    long : length l ≡ n
+    long = omega (arith, m.size, length-take n was)
 
 pub returns : goal.returns
 unfolding settled
 returns c =
     let l = c.loop-i in
     let s = c.args in
-    let all : l.i ≡ s.clocks = omega (arith, l.invariant.0, c.loop-i-test.false) in
-    mapped_first (settling s.ticks s.resets) s.readings 6 l.i l.out (search rules) l.invariant.1
-    ∙ ap (λ n. tab (λ j. cond (ltb j n) (settling s.ticks s.resets j (get_or s.readings j 0)) (get_or s.readings j 0)) 6) all
+    let six : length s.readings ≡ 6 = search rules in
+    let f = settling s.ticks s.resets in
+    mapped_first f s.readings 6 s.clocks _ six (front f s.readings l.reading-items s.clocks l.i (omega arith) (omega (arith, length-take s.clocks s.readings)) l.invariant)

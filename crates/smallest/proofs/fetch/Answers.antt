@@ -1,25 +1,9 @@
-use mathlib.Core.Path.{◌≡◌, refl}
-use Prim.Native.Nat.{◌+◌, ◌-◌, ◌/◌, ◌≤◌}
-use lib.ListN.{length, length-set}
-use Rattle.basics.specs.Places.{at, written, written_none, written_more}
-use Rattle.zones.specs.Codes.{BIAS}
-use borrow.Author.Rules.{rules}
+use Rattle.basics.specs.Places.{written_none, written_more}
 use native.Mathlib.Omega.{arith}
 use Rattle.smallest.proofs.fetch.Goals as goal
 
 pub loop-j-init : goal.loop-j-init
-loop-j-init c = (omega arith, refl, written_none _ _)
-
-pub overflow_sub-starts : goal.overflow_sub-starts
-overflow_sub-starts c =
-    let s = c in omega (arith, c.requires.4 (c.loop-j.j + 1) (omega arith))
+loop-j-init c = written_none _ _
 
 pub loop-j-preserved : goal.loop-j-preserved
-loop-j-preserved c =
-    let l = c.loop-j in
-    (omega arith, simp length-set l.invariant.1, written_more _ l.j _ _ _ (omega (arith, l.invariant.1)) (omega arith) l.invariant.2)
-
-pub returns : goal.returns
-returns c =
-    let l = c.loop-j in
-    let e : c.args.side - 1 ≡ l.j = omega arith in rw e l.invariant.2
+loop-j-preserved c = written_more _ c.loop-j.j _ _ _ (omega arith) (omega arith) c.loop-j.invariant

@@ -1,41 +1,29 @@
 -- `smallest::smallest` meets its contract: the left part in parts has a solution, so closing goes through, and its first row tells.
 use Rattle.smallest.specs.Least.{left_coded, parts_ranged, codes_low, readings_written}
 use native.Mathlib.Omega.{arith}
-use borrow.Author.Rules.{rules}
 use Rattle.smallest.proofs.smallest.Goals as goal
 
 pub left_in_parts-requires : goal.left_in_parts-requires
 left_in_parts-requires c =
-    let s = c in
     let (σ, e) = c.requires.5 in
     (c.requires.0, c.requires.1, c.requires.2, c.requires.3.1, left_coded c.requires.3 e)
 
-pub close-closed-requires : goal.close-closed-requires
-close-closed-requires c =
-    let l = c in
-    let s = c in
+pub close-requires : goal.close-requires
+close-requires c =
     let (σ, e) = c.requires.5 in
     (omega arith, omega (arith, c.requires.3.1), parts_ranged c.requires.3 e c.left_in_parts.ensures)
 
 pub fetch-requires : goal.fetch-requires
 fetch-requires c =
-    let k = c in
-    let l = c in
-    let s = c in
     let (σ, e) = c.requires.5 in (
-      search rules,
+      omega arith,
       c.requires.3.0,
       c.requires.3.1,
       c.requires.4,
-      codes_low c.requires.3 e c.left_in_parts.ensures c.close-closed.ensures,
+      codes_low c.requires.3 e c.left_in_parts.ensures c.close.ensures,
     )
 
 pub returns : goal.returns
 returns c =
-    let f = c in
-    let k = c in
-    let l = c in
-    let s = c in
     let (σ, e) = c.requires.5 in
-    readings_written c.requires.3 e c.left_in_parts.ensures c.close-closed.ensures _ _
-    c.requires.4 c.fetch.ensures
+    readings_written c.requires.3 e c.left_in_parts.ensures c.close.ensures _ _ c.requires.4 c.fetch.ensures

@@ -1,7 +1,6 @@
 -- Each array has 1031 places.
 use Rattle.solving.specs.Solve.{spacious}
 use Rattle.relaxing.specs.Rows.{sound_moments}
-use borrow.Author.Rules.{rules}
 use Rattle.spaces.proofs.solve_large.Goals as goal
 
 pub solve-requires : goal.solve-requires

@@ -2,21 +2,14 @@
 use mathlib.Core.Path.{refl}
 use Prim.Native.Nat.{◌/◌}
 use Rattle.zones.specs.Codes.{BIAS, bound_none, bound_some}
-use Rattle.basics.specs.Signed.{less_read, difference_fits, difference}
-use borrow.Author.Rules.{rules}
+use Rattle.basics.specs.Signed.{less_read, difference}
 use native.Mathlib.Omega.{arith}
 use Rattle.telling.proofs.ticks_of.Goals as goal
 
 pub returns-then-e-eq-NONE : goal.returns-then-e-eq-NONE
 returns-then-e-eq-NONE c = rw (bound_none _ c.if-e-eq-NONE.true) refl
 
-pub overflow_sub-result : goal.overflow_sub-result
-overflow_sub-result c =
-    let s = c in
-    difference_fits (c.args.e / 2) BIAS (omega arith) (omega arith) _ (less_read (c.args.e / 2) BIAS (omega arith) (omega arith))
-
 pub returns : goal.returns
 returns c =
-    let s = c in
     rw (bound_some _ c.if-e-eq-NONE.false) (difference (c.args.e / 2) BIAS (omega arith) (omega arith) _
     (less_read (c.args.e / 2) BIAS (omega arith) (omega arith)))

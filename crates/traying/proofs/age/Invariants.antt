@@ -1,6 +1,6 @@
 -- `traying::age` meets its contract: the readings before have aged.
 use mathlib.Core.Bool.{cond}
-use Prim.Native.Nat.{ℕ, ◌-◌}
+use Prim.Native.Nat.{ℕ}
 use lib.Dec.{ltb}
 use Rattle.basics.specs.Mapped.{MappedTo}
 use Rattle.ticks.specs.Ticks.{later_of}
@@ -11,7 +11,4 @@ abbrev pub aging : ℕ → ℕ → ℕ → ℕ → ℕ
 aging clocks ticks i x = cond (ltb i clocks) (later_of x ticks) x
 
 abbrev pub invariant-loop-i : goal.invariant-loop-i
-invariant-loop-i l = MappedTo (aging l.clocks l.ticks) l.initial.out l.i l.out
-
-abbrev pub decreases-loop-i : goal.decreases-loop-i
-decreases-loop-i l = 6 - l.i
+invariant-loop-i l = MappedTo (aging l.clocks l.ticks) l.fn.readings l.i l.reading-items

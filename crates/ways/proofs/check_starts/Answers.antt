@@ -1,11 +1,7 @@
-use borrow.Author.Rules.{rules}
 use native.Mathlib.Omega.{arith}
 use mathlib.Core.Path.{ap}
 use mathlib.Core.List.{[], ◌∷◌}
-use Prim.Native.Nat.{◌+◌, ◌-◌}
-use Rattle.paths.specs.State.{state}
-use Rattle.checks.specs.Turns.{turn_size}
-use Rattle.ways.specs.Clocks.{Left, clocks_first, clocks_able, clocks_next, clocks_last}
+use Rattle.ways.specs.Clocks.{clocks_first, clocks_able, clocks_next, clocks_last}
 use Rattle.ways.specs.Starting.{starts_by}
 use Rattle.ways.proofs.check_starts.Goals as goal
 
@@ -15,14 +11,20 @@ loop-j-init c = clocks_first (starts_by _) _ _ _ _ c.requires.2
 pub check-swept-requires : goal.check-swept-requires
 check-swept-requires c =
     let l = c.loop-j in
-    clocks_able (starts_by _) _ _ _ _ l.j _ _ _ l.invariant (omega (arith, c.loop-j-test.true)) _
-    (ap (λ d. d ∷ []) c.not_after.ensures)
+    clocks_able (starts_by _) _ _ _ _ l.j _ _ _ l.invariant (omega arith) _ (ap (λ d. d ∷ []) c.not_after.ensures)
 
 pub loop-j-preserved : goal.loop-j-preserved
 loop-j-preserved c =
     let l = c.loop-j in
-    clocks_next (starts_by _) _ _ _ _ l.j _ _ _ l.invariant (omega (arith, c.loop-j-test.true)) _
+    clocks_next (starts_by _) _ _ _ _ l.j _ _ _ l.invariant (omega arith) _
     (ap (λ d. d ∷ []) c.not_after.ensures) _ _ _ c.check-swept.ensures
 
 pub returns : goal.returns
-returns c = clocks_last (starts_by _) _ _ _ _ _ _ _ _ c.loop-j.invariant (omega (arith, c.loop-j-test.false))
+returns c = clocks_last (starts_by _) _ _ _ _ _ _ _ _ c.loop-j.invariant (omega arith)
+
+pub returns-2 : goal.returns-2
+returns-2 c =
+    let l = c.loop-j in
+    clocks_last (starts_by _) _ _ _ _ _ _ _ _
+    (clocks_next (starts_by _) _ _ _ _ l.j _ _ _ l.invariant (omega arith) _
+    (ap (λ d. d ∷ []) c.not_after.ensures) _ _ _ c.check-swept.ensures) (omega arith)

@@ -3,7 +3,6 @@ use mathlib.Core.Path.{sym, ◌∙◌}
 use mathlib.Core.Logic.{◌⊎◌}
 use Prim.Native.Nat.{◌*◌, ◌≤◌, ◌<◌}
 use native.Mathlib.Omega.{arith}
-use borrow.Author.Rules.{rules}
 use borrow.Author.Tests.{not-true, not-false}
 use Rattle.asking.specs.Admitted.{range_true, range_false}
 use Rattle.windows.specs.Admit.{admit_rounds, admit_marks, admit_times, admit_all}
@@ -26,17 +25,11 @@ returns-then-not-in_range c =
     range_false a.k a.steps (sym c.in_range.ensures ∙ not-true _ c.if-not-in_range.true-raw) in
     c.refuse.ensures ∙ sym (admit_rounds a.steps a.k a.marks a.times out)
 
-pub overflow_mul-total : goal.overflow_mul-total
-overflow_mul-total c = record { fits = omega (arith, (ranged (goal.at.overflow_mul-total c).Else-not-in_range).1) }
-
 pub returns-then-marks-total : goal.returns-then-marks-total
 returns-then-marks-total c =
     let a = (asked (goal.at.returns-then-marks-total c).Else-not-in_range).args in
     let short : a.marks < a.k * a.steps = omega (arith, c.if-marks-total.true) in
     c.refuse-then-marks-total.ensures ∙ sym (admit_marks a.steps a.k a.marks a.times (ranged (goal.at.returns-then-marks-total c).Else-not-in_range).0 (ranged (goal.at.returns-then-marks-total c).Else-not-in_range).1 short)
-
-pub overflow_mul-total-2 : goal.overflow_mul-total-2
-overflow_mul-total-2 c = record { fits = omega (arith, (ranged (goal.at.overflow_mul-total-2 c).Else-not-in_range).1) }
 
 pub returns-then-times-total : goal.returns-then-times-total
 returns-then-times-total c =

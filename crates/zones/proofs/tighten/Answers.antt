@@ -1,6 +1,5 @@
 -- `zones::tighten` meets its contract: one cell is stored, the smaller of the two codes.
 use Rattle.zones.specs.Building.{tighten_is}
-use borrow.Author.Rules.{rules}
 use Rattle.zones.proofs.tighten.Goals as goal
 
 pub returns : goal.returns
