@@ -16,7 +16,7 @@ use Rattle.table.specs.declared.Guard.{Guard}
 use Rattle.table.specs.declared.Relation.{Relation}
 use Rattle.table.specs.declared.Relation.TheVariants.{Under, AtMost, Exactly, AtLeast, Over}
 use Rattle.table.specs.declared.Table.{Table}
-use Rattle.scans.specs.Scan.{compares, first_failing}
+use Rattle.scans.specs.Scan.{compares, holds, first_failing}
 use Rattle.ranges.specs.declared.Range.{Range}
 
 -- the least reading that a relation and a constant allow
@@ -80,16 +80,29 @@ allowed_compares Over c x h = rw (lt-ltb x 4002 (omega arith)) (and-true (leb (c
     go (yes l) = le-leb (c + 1) x (omega arith) ∙ sym (lt-ltb c x l)
     go (no l) = lt-leb (c + 1) x (omega arith) ∙ sym (le-ltb c x (omega arith))
 
-number_cond : (b : Bool) (p : ℕ) → unwrap_or (option_map (λ k. k + 1) (cond b (Some p) None)) 0 ≡ cond b (0 + p + 1) 0
-number_cond true p = omega arith
-number_cond false p = refl
+-- the place of one of some, if there is one, counted from a number on; else 0
+number_cond : (b : ℕ) (v : Bool) (p : ℕ) → unwrap_or (option_map (λ k. b + k + 1) (cond v (Some p) None)) 0 ≡ cond v (b + p + 1) 0
+number_cond b true p = refl
+number_cond b false p = refl
 
--- the number is one of theirs
-pub outside_few : (r : List ℕ) (rs : List Range) → unwrap_or (first_outside r rs) 0 ≤ length rs
-outside_few r rs = few (position_or_len (λ x. not (inside r x)) rs) (length rs)
+first_cond : (v : Bool) (p : ℕ) → unwrap_or (option_map (λ k. k + 1) (cond v (Some p) None)) 0 ≡ cond v (0 + p + 1) 0
+first_cond true p = omega arith
+first_cond false p = refl
+
+-- The number of the first that a test turns away, from b on, is one of theirs.
+pub outside_few : (test : Range → Bool) (b : ℕ) (rs : List Range)
+    → unwrap_or (option_map (λ k. b + k + 1) (position (λ x. not (test x)) rs)) 0 ≤ b + length rs
+outside_few test b rs = few (position_or_len (λ x. not (test x)) rs) (length rs)
+  where
+    few : (p n : ℕ) → unwrap_or (option_map (λ k. b + k + 1) (cond (ltb p n) (Some p) None)) 0 ≤ b + n
+    few p n = rw (number_cond b (ltb p n) p) (grind (arith, nat_tests))
+
+-- and so is that of the first whose clock has a reading that is not inside
+pub inside_few : (r : List ℕ) (rs : List Range) → unwrap_or (first_outside r rs) 0 ≤ length rs
+inside_few r rs = few (position_or_len (λ x. not (inside r x)) rs) (length rs)
   where
     few : (p n : ℕ) → unwrap_or (option_map (λ k. k + 1) (cond (ltb p n) (Some p) None)) 0 ≤ n
-    few p n = rw (number_cond (ltb p n) p) (grind (arith, nat_tests))
+    few p n = rw (first_cond (ltb p n) p) (grind (arith, nat_tests))
 
 -- the guards' clocks are those of their ranges
 pub asked_clocks : (gs : List Guard) → ((g : Guard) → Memᴰ g gs → (1 ≤ g.clock) × (g.clock ≤ 6)) → Asked (map range_of gs)
@@ -103,24 +116,41 @@ place_more : (v : Bool) (later n b x : ℕ) → x ≡ cond (ltb later n) (suc b 
 place_more true later n b x e = grind (arith, nat_tests)
 place_more false later n b x e = grind (arith, nat_tests)
 
+-- a test of ranges that says of each of some guards whether it holds
+module _ (test : Range → Bool) (r : List ℕ) where
+  abbrev pub Tells : List Guard → Type 0
+  Tells gs = (g : Guard) → Memᴰ g gs → test (range_of g) ≡ holds g r
+
+  abbrev place : List Guard → ℕ
+  place gs = position_or_len (λ x. not (test x)) (map range_of gs)
+
+  pub failing_place : (b : ℕ) (gs : List Guard) → Tells gs → first_failing b gs r ≡ cond (ltb (place gs) (length gs)) (b + place gs + 1) 0
+  unfolding first_failing
+  failing_place b [] h = refl
+  failing_place b (g ∷ gs) h =
+      ap (λ v. cond v (first_failing (suc b) gs r) (suc b)) (sym (h g (Memᴰ.head refl)))
+      ∙ place_more (test (range_of g)) (place gs) (length gs) b _ (failing_place (suc b) gs (λ x m. h x (Memᴰ.tail m)))
+
+  -- The number of the first that fails, from b on, is that of the first that does not hold.
+  pub outside_failing : (b : ℕ) (gs : List Guard) → Tells gs
+      → unwrap_or (option_map (λ k. b + k + 1) (position (λ x. not (test x)) (map range_of gs))) 0 ≡ first_failing b gs r
+  outside_failing b gs h =
+      ap (λ n. unwrap_or (option_map (λ k. b + k + 1) (cond (ltb (place gs) n) (Some (place gs)) None)) 0) (length-map gs range_of)
+      ∙ number_cond b (ltb (place gs) (length gs)) (place gs)
+      ∙ sym (failing_place b gs h)
+
 -- readings that are held
 module _ (r : List ℕ) where
   abbrev pub Held : List Guard → Type 0
   Held gs = (g : Guard) → Memᴰ g gs → get_or r (g.clock - 1) 0 ≤ 4001
 
-  abbrev place : List Guard → ℕ
-  place gs = position_or_len (λ x. not (inside r x)) (map range_of gs)
-
-  failing_place : (b : ℕ) (gs : List Guard) → Held gs → first_failing b gs r ≡ cond (ltb (place gs) (length gs)) (b + place gs + 1) 0
-  unfolding first_failing
-  failing_place b [] h = refl
-  failing_place b (g ∷ gs) h =
-      ap (λ v. cond v (first_failing (suc b) gs r) (suc b)) (sym (allowed_compares g.relation g.constant _ (h g (Memᴰ.head refl))))
-      ∙ place_more (inside r (range_of g)) (place gs) (length gs) b _ (failing_place (suc b) gs (λ x m. h x (Memᴰ.tail m)))
+  -- tell by their ranges which guards hold
+  pub held_tells : (gs : List Guard) → Held gs → Tells (inside r) r gs
+  held_tells gs h g m = allowed_compares g.relation g.constant _ (h g m)
 
   -- The first guard outside is the first that does not hold.
-  pub outside_failing : (gs : List Guard) → Held gs → unwrap_or (first_outside r (map range_of gs)) 0 ≡ first_failing 0 gs r
-  outside_failing gs h =
-      ap (λ n. unwrap_or (option_map (λ k. k + 1) (cond (ltb (place gs) n) (Some (place gs)) None)) 0) (length-map gs range_of)
-      ∙ number_cond (ltb (place gs) (length gs)) (place gs)
-      ∙ sym (failing_place 0 gs h)
+  pub held_failing : (gs : List Guard) → Held gs → unwrap_or (first_outside r (map range_of gs)) 0 ≡ first_failing 0 gs r
+  held_failing gs h =
+      ap (λ n. unwrap_or (option_map (λ k. k + 1) (cond (ltb (place (inside r) r gs) n) (Some (place (inside r) r gs)) None)) 0) (length-map gs range_of)
+      ∙ first_cond (ltb (place (inside r) r gs) (length gs)) (place (inside r) r gs)
+      ∙ sym (failing_place (inside r) r 0 gs (held_tells gs h))

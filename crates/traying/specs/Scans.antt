@@ -20,7 +20,7 @@ use Rattle.scans.specs.Scan.{first_failing, aged, cleared, due, following, decid
 use Rattle.scans.specs.Held.{aged_at, fits_step}
 use Rattle.trays.specs.Tray.{verdict_number}
 use Rattle.ranges.specs.declared.Range.{Range}
-use Rattle.ranges.specs.Allowed.{range_of, ranges_of, Asked, first_outside, asked_clocks, outside_few, outside_failing}
+use Rattle.ranges.specs.Allowed.{range_of, ranges_of, Asked, first_outside, asked_clocks, inside_few, held_failing}
 use Rattle.traying.specs.Moved.{cleared_at, moved_on}
 
 -- the readings after the resets of a step, by its flags among those of all steps
@@ -143,11 +143,11 @@ module _ (t : Table) (good : Good t) (own : Clocks t.clocks (steps_of t)) (r : R
   number = failing t r counter
 
   pub scan_few : number ≤ 64
-  scan_few = omega (arith, outside_few now part, length-take {A = Range} (to - from) (drop from (ranges_of t)), room)
+  scan_few = omega (arith, inside_few now part, length-take {A = Range} (to - from) (drop from (ranges_of t)), room)
 
   -- It is that of the first that does not hold.
-  scan_failing : number ≡ first_failing 0 gs now
-  scan_failing = ap (λ rs. unwrap_or (first_outside now rs) 0) part_lem ∙ outside_failing now gs held
+  pub scan_failing : number ≡ first_failing 0 gs now
+  scan_failing = ap (λ rs. unwrap_or (first_outside now rs) 0) part_lem ∙ held_failing now gs held
 
   -- So it tells the verdict, and the record after the scan.
   pub scan_number : number ≡ verdict_number (scanned (steps_of t) t.clocks r counter).verdict

@@ -57,7 +57,7 @@ pub fn check_partners(
         return w;
     }
     let mut swept = w;
-    for clock in 1..=clocks {
+    for clock in 1..clocks + 1 {
         let partner = partner_of(start, total, clock);
         swept = check_partner(partner, time, parent, stamp, swept);
     }
@@ -141,7 +141,7 @@ pub fn check_starts(
         (state time.new parent.new stamp.new) result.raised result.stamp }
 {
     let mut swept = w;
-    for j in 1..=clocks {
+    for j in 1..clocks + 1 {
         swept = check(not_after(0, total + j), time, parent, stamp, swept);
     }
     swept

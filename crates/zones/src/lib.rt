@@ -56,5 +56,7 @@ pub fn copy_line(row: &mut [u64], other: &[u64], to: usize, from: usize, size: u
         × (from + size ≤ length other.now) }
     ensures { LineTo to from size other.now row.old row.new }
 {
-    row[to..to + size].copy_from_slice(&other[from..from + size]);
+    for c in 0..size {
+        row[to + c] = other[from + c];
+    }
 }

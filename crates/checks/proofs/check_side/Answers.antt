@@ -23,10 +23,3 @@ loop-j-preserved c =
 
 pub returns : goal.returns
 returns c = side_last _ _ _ _ _ _ _ _ _ _ _ _ _ _ c.loop-j.invariant (omega (arith, c.loop-j-test.false))
-
-pub returns-2 : goal.returns-2
-returns-2 c =
-    let l = c.loop-j in
-    side_last _ _ _ _ _ _ _ _ _ _ _ _ _ _
-    (side_next _ _ _ _ _ _ _ _ _ _ l.j _ _ _ l.invariant (omega (arith, c.loop-j-test.true)) _ _ _ c.check_key-swept.ensures)
-    (omega arith)

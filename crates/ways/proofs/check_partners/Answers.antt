@@ -22,12 +22,5 @@ loop-clock-preserved c =
     clocks_next (partners_by _ _) _ _ _ _ l.clock _ _ _ l.invariant (omega arith) _
     c.partner_of-partner.ensures _ _ _ c.check_partner-swept.ensures
 
-pub returns-else-partners-eq0 : goal.returns-else-partners-eq0
-returns-else-partners-eq0 c = clocks_last (partners_by _ _) _ _ _ _ _ _ _ _ c.loop-clock.invariant (omega arith)
-
-pub returns-else-partners-eq0-2 : goal.returns-else-partners-eq0-2
-returns-else-partners-eq0-2 c =
-    let l = c.loop-clock in
-    clocks_last (partners_by _ _) _ _ _ _ _ _ _ _
-    (clocks_next (partners_by _ _) _ _ _ _ l.clock _ _ _ l.invariant (omega arith) _
-    c.partner_of-partner.ensures _ _ _ c.check_partner-swept.ensures) (omega arith)
+pub returns : goal.returns
+returns c = clocks_last (partners_by _ _) _ _ _ _ _ _ _ _ c.loop-clock.invariant (omega arith)

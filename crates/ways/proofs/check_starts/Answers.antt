@@ -21,10 +21,3 @@ loop-j-preserved c =
 
 pub returns : goal.returns
 returns c = clocks_last (starts_by _) _ _ _ _ _ _ _ _ c.loop-j.invariant (omega arith)
-
-pub returns-2 : goal.returns-2
-returns-2 c =
-    let l = c.loop-j in
-    clocks_last (starts_by _) _ _ _ _ _ _ _ _
-    (clocks_next (starts_by _) _ _ _ _ l.j _ _ _ l.invariant (omega arith) _
-    (ap (λ d. d ∷ []) c.not_after.ensures) _ _ _ c.check-swept.ensures) (omega arith)
