@@ -203,7 +203,10 @@ pub fn check_side(
         (state time.new parent.new stamp.new) result.raised result.stamp }
 {
     let mut swept = w;
-    for j in 1..clocks + 1 {
+    for j in 1..7 {
+        if clocks < j {
+            break;
+        }
         let at = 7 * s + j;
         swept = check_key(
             upper, keys[at], far[at], total, i, j, time, parent, stamp, swept,

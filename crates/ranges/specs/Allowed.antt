@@ -90,9 +90,9 @@ first_cond true p = omega arith
 first_cond false p = refl
 
 -- The number of the first that a test turns away, from b on, is one of theirs.
-pub outside_few : (test : Range → Bool) (b : ℕ) (rs : List Range)
-    → unwrap_or (option_map (λ k. b + k + 1) (position (λ x. not (test x)) rs)) 0 ≤ b + length rs
-outside_few test b rs = few (position_or_len (λ x. not (test x)) rs) (length rs)
+pub outside_few : {A : Type 0} (test : A → Bool) (b : ℕ) (xs : List A)
+    → unwrap_or (option_map (λ k. b + k + 1) (position (λ x. not (test x)) xs)) 0 ≤ b + length xs
+outside_few test b xs = few (position_or_len (λ x. not (test x)) xs) (length xs)
   where
     few : (p n : ℕ) → unwrap_or (option_map (λ k. b + k + 1) (cond (ltb p n) (Some p) None)) 0 ≤ b + n
     few p n = rw (number_cond b (ltb p n) p) (grind (arith, nat_tests))
@@ -116,28 +116,32 @@ place_more : (v : Bool) (later n b x : ℕ) → x ≡ cond (ltb later n) (suc b 
 place_more true later n b x e = grind (arith, nat_tests)
 place_more false later n b x e = grind (arith, nat_tests)
 
--- a test of ranges that says of each of some guards whether it holds
-module _ (test : Range → Bool) (r : List ℕ) where
-  abbrev pub Tells : List Guard → Type 0
-  Tells gs = (g : Guard) → Memᴰ g gs → test (range_of g) ≡ holds g r
+-- a test that says of each of some guards, by what stands at its place, whether it holds
+module _ {A : Type 0} (test : A → Bool) (r : List ℕ) where
+  abbrev pub Tells : List Guard → List A → Type 0
+  Tells gs xs = (length xs ≡ length gs) × ((i : ℕ) (d : A) (e : Guard) → i < length gs → test (get_or xs i d) ≡ holds (get_or gs i e) r)
 
-  abbrev place : List Guard → ℕ
-  place gs = position_or_len (λ x. not (test x)) (map range_of gs)
+  abbrev place : List A → ℕ
+  place xs = position_or_len (λ x. not (test x)) xs
 
-  pub failing_place : (b : ℕ) (gs : List Guard) → Tells gs → first_failing b gs r ≡ cond (ltb (place gs) (length gs)) (b + place gs + 1) 0
+  pub failing_place : (b : ℕ) (gs : List Guard) (xs : List A) → Tells gs xs
+      → first_failing b gs r ≡ cond (ltb (place xs) (length gs)) (b + place xs + 1) 0
   unfolding first_failing
-  failing_place b [] h = refl
-  failing_place b (g ∷ gs) h =
-      ap (λ v. cond v (first_failing (suc b) gs r) (suc b)) (sym (h g (Memᴰ.head refl)))
-      ∙ place_more (test (range_of g)) (place gs) (length gs) b _ (failing_place (suc b) gs (λ x m. h x (Memᴰ.tail m)))
+  failing_place b [] [] h = refl
+  failing_place b [] (x ∷ xs) h = absurd (omega (arith, h.0))
+  failing_place b (g ∷ gs) [] h = absurd (omega (arith, h.0))
+  failing_place b (g ∷ gs) (x ∷ xs) h =
+      ap (λ v. cond v (first_failing (suc b) gs r) (suc b)) (sym (h.1 0 x g (omega arith)))
+      ∙ place_more (test x) (place xs) (length gs) b _
+      (failing_place (suc b) gs xs (omega (arith, h.0), λ i d e l. h.1 (suc i) d e (omega (arith, l))))
 
   -- The number of the first that fails, from b on, is that of the first that does not hold.
-  pub outside_failing : (b : ℕ) (gs : List Guard) → Tells gs
-      → unwrap_or (option_map (λ k. b + k + 1) (position (λ x. not (test x)) (map range_of gs))) 0 ≡ first_failing b gs r
-  outside_failing b gs h =
-      ap (λ n. unwrap_or (option_map (λ k. b + k + 1) (cond (ltb (place gs) n) (Some (place gs)) None)) 0) (length-map gs range_of)
-      ∙ number_cond b (ltb (place gs) (length gs)) (place gs)
-      ∙ sym (failing_place b gs h)
+  pub outside_failing : (b : ℕ) (gs : List Guard) (xs : List A) → Tells gs xs
+      → unwrap_or (option_map (λ k. b + k + 1) (position (λ x. not (test x)) xs)) 0 ≡ first_failing b gs r
+  outside_failing b gs xs h =
+      ap (λ n. unwrap_or (option_map (λ k. b + k + 1) (cond (ltb (place xs) n) (Some (place xs)) None)) 0) h.0
+      ∙ number_cond b (ltb (place xs) (length gs)) (place xs)
+      ∙ sym (failing_place b gs xs h)
 
 -- readings that are held
 module _ (r : List ℕ) where
@@ -145,12 +149,19 @@ module _ (r : List ℕ) where
   Held gs = (g : Guard) → Memᴰ g gs → get_or r (g.clock - 1) 0 ≤ 4001
 
   -- tell by their ranges which guards hold
-  pub held_tells : (gs : List Guard) → Held gs → Tells (inside r) r gs
-  held_tells gs h g m = allowed_compares g.relation g.constant _ (h g m)
+  held_at : (gs : List Guard) → Held gs → (i : ℕ) (d : Range) (e : Guard) → i < length gs
+      → inside r (get_or (map range_of gs) i d) ≡ holds (get_or gs i e) r
+  held_at [] h i d e l = absurd (omega arith)
+  held_at (g ∷ gs) h zero d e l = allowed_compares g.relation g.constant _ (h g (Memᴰ.head refl))
+  held_at (g ∷ gs) h (suc i) d e l = held_at gs (λ x m. h x (Memᴰ.tail m)) i d e (omega arith)
+
+  pub held_tells : (gs : List Guard) → Held gs → Tells (inside r) r gs (map range_of gs)
+  held_tells gs h = (length-map gs range_of, held_at gs h)
 
   -- The first guard outside is the first that does not hold.
   pub held_failing : (gs : List Guard) → Held gs → unwrap_or (first_outside r (map range_of gs)) 0 ≡ first_failing 0 gs r
   held_failing gs h =
-      ap (λ n. unwrap_or (option_map (λ k. k + 1) (cond (ltb (place (inside r) r gs) n) (Some (place (inside r) r gs)) None)) 0) (length-map gs range_of)
-      ∙ first_cond (ltb (place (inside r) r gs) (length gs)) (place (inside r) r gs)
-      ∙ sym (failing_place (inside r) r 0 gs (held_tells gs h))
+      let p = place (inside r) r (map range_of gs) in
+      ap (λ n. unwrap_or (option_map (λ k. k + 1) (cond (ltb p n) (Some p) None)) 0) (length-map gs range_of)
+      ∙ first_cond (ltb p (length gs)) p
+      ∙ sym (failing_place (inside r) r 0 gs (map range_of gs) (held_tells gs h))
