@@ -85,9 +85,10 @@ number_cond : (b : ℕ) (v : Bool) (p : ℕ) → unwrap_or (option_map (λ k. b 
 number_cond b true p = refl
 number_cond b false p = refl
 
-first_cond : (v : Bool) (p : ℕ) → unwrap_or (option_map (λ k. k + 1) (cond v (Some p) None)) 0 ≡ cond v (0 + p + 1) 0
-first_cond true p = omega arith
-first_cond false p = refl
+-- from 0 on it is the place and 1
+from_zero : (o : Option ℕ) → unwrap_or (option_map (λ k. k + 1) o) 0 ≡ unwrap_or (option_map (λ k. 0 + k + 1) o) 0
+from_zero None = refl
+from_zero (Some k) = omega arith
 
 -- The number of the first that a test turns away, from b on, is one of theirs.
 pub outside_few : {A : Type 0} (test : A → Bool) (b : ℕ) (xs : List A)
@@ -99,10 +100,7 @@ outside_few test b xs = few (position_or_len (λ x. not (test x)) xs) (length xs
 
 -- and so is that of the first whose clock has a reading that is not inside
 pub inside_few : (r : List ℕ) (rs : List Range) → unwrap_or (first_outside r rs) 0 ≤ length rs
-inside_few r rs = few (position_or_len (λ x. not (inside r x)) rs) (length rs)
-  where
-    few : (p n : ℕ) → unwrap_or (option_map (λ k. k + 1) (cond (ltb p n) (Some p) None)) 0 ≤ n
-    few p n = rw (first_cond (ltb p n) p) (grind (arith, nat_tests))
+inside_few r rs = omega (arith, from_zero (position (λ x. not (inside r x)) rs), outside_few (inside r) 0 rs)
 
 -- the guards' clocks are those of their ranges
 pub asked_clocks : (gs : List Guard) → ((g : Guard) → Memᴰ g gs → (1 ≤ g.clock) × (g.clock ≤ 6)) → Asked (map range_of gs)
@@ -124,7 +122,7 @@ module _ {A : Type 0} (test : A → Bool) (r : List ℕ) where
   abbrev place : List A → ℕ
   place xs = position_or_len (λ x. not (test x)) xs
 
-  pub failing_place : (b : ℕ) (gs : List Guard) (xs : List A) → Tells gs xs
+  failing_place : (b : ℕ) (gs : List Guard) (xs : List A) → Tells gs xs
       → first_failing b gs r ≡ cond (ltb (place xs) (length gs)) (b + place xs + 1) 0
   unfolding first_failing
   failing_place b [] [] h = refl
@@ -160,8 +158,4 @@ module _ (r : List ℕ) where
 
   -- The first guard outside is the first that does not hold.
   pub held_failing : (gs : List Guard) → Held gs → unwrap_or (first_outside r (map range_of gs)) 0 ≡ first_failing 0 gs r
-  held_failing gs h =
-      let p = place (inside r) r (map range_of gs) in
-      ap (λ n. unwrap_or (option_map (λ k. k + 1) (cond (ltb p n) (Some p) None)) 0) (length-map gs range_of)
-      ∙ first_cond (ltb p (length gs)) p
-      ∙ sym (failing_place (inside r) r 0 gs (map range_of gs) (held_tells gs h))
+  held_failing gs h = from_zero _ ∙ outside_failing (inside r) r 0 gs (map range_of gs) (held_tells gs h)
